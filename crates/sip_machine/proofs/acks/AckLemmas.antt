@@ -1,9 +1,5 @@
--- What bytes are read as: nothing where they have a fault, and of which response they are an ACK.
-use Rattle.sip_machine.proofs.Words.{◌≡◌, ◌↔◌, ℕ, Bool, false, IsTrue, List, sym, ◌∙◌, true≢false, Fault, stops, Reading, Reads, Said, Says, said_of, says-reads, says-no_fault, solid, AckOf, IsAckOf, SameSolid, ack-of_says, IsToOf}
-
--- bytes that have a fault are read as no message
-pub Reads-fault : (bytes : List ℕ) (f : Fault) → Says bytes (stops f) → (r : Reading) → Reads bytes r → ⊥
-Reads-fault bytes f fault r reads = says-no_fault bytes (said_of r) f reads.says fault
+-- Of which response bytes are an ACK.
+use Rattle.sip_machine.proofs.Words.{◌≡◌, ◌↔◌, ℕ, Bool, false, IsTrue, List, sym, ◌∙◌, true≢false, Reading, Reads, Said, said_of, says-reads, solid, AckOf, IsAckOf, SameSolid, ack-of_says, IsToOf}
 
 -- where an ACK belongs to the response to an INVITE, the bytes of the response are read as a message, and what the three say is so related
 AckOf-read : (ack invite response : List ℕ) (a i : Reading) → Reads ack a → Reads invite i → AckOf ack invite response

@@ -1,15 +1,6 @@
 -- Lists of states that cover what holds of some states, where one may be covered more than once.
 use Prim.Native.Nat.{suc, zero}
-use Rattle.std.specs.Prelude.{◌≡◌, ◌≤◌, ◌<◌, ◌+◌, ◌-◌, ◌↔◌, ◌⊎◌, ℕ, Bool, true, false, Option, Some, None, List, [], ◌∷◌, ◌++◌, All, drop, filter, get_or, length, map, option_to_list, take}
-use Rattle.std.proofs.Common.{inl, inr, refl, sym, ◌∙◌, ap, subst, cond, arith, append-nil, append_assoc, length-append}
-use Rattle.std.proofs.lemmas.Bool.Decides.{nat_tests}
-use Rattle.std.proofs.Math.Seq.{take-append_seam}
-use Rattle.std.proofs.lemmas.List.{get_or-drop, get_or-take, get_or_append_left, length-drop, length-take-le, map-append, take-append-le}
-use Rattle.std.proofs.lemmas.List.Elements.{All-append, All-drop, All-get_or, All-head, All-nil, All-tail, All-take, Contains-append_cases, Contains-append_left, Contains-append_right}
-use Rattle.sip_ledger.specs.Lists.{from_to}
-use Rattle.sip_machine.specs.Texts.{Texts}
-use Rattle.sip_machine.specs.Rules.{Covers, FromSome, Knows, StandFor}
-use Rattle.sip_machine.specs.inner.Single.{AnswersOne}
+use Rattle.sip_machine.proofs.Words.{◌≡◌, ◌≤◌, ◌<◌, ◌+◌, ◌-◌, ◌↔◌, ◌⊎◌, ℕ, Bool, true, false, Option, Some, None, List, [], ◌∷◌, ◌++◌, All, drop, filter, get_or, length, map, option_to_list, take, inl, inr, refl, sym, ◌∙◌, ap, subst, cond, arith, append-nil, append_assoc, length-append, nat_tests, take-append_seam, get_or-drop, get_or-take, get_or_append_left, length-drop, length-take-le, map-append, take-append-le, All-append, All-drop, All-get_or, All-head, All-nil, All-tail, All-take, Contains-append_cases, Contains-append_left, Contains-append_right, from_to, Texts, Covers, FromSome, Knows, StandFor, AnswersOne}
 use Rattle.sip_machine.proofs.texts.TextLaws.{Contains-nil}
 use Rattle.sip_machine.proofs.steps.SingleLemmas.{StandFor-one}
 
@@ -19,47 +10,17 @@ module _ {X S : Type 0} where
   -- what leads from one of two lists leads from both together
   pub FromSome-append : (P : S → X → Type 0) (xs ys : List S) (y : X) → (FromSome P xs y ⊎ FromSome P ys y) ↔ FromSome P (xs ++ ys) y
   FromSome-append P [] ys y = (λ h. elim h [ inl none ↦ absurd none | inr later ↦ later ], inr)
-  FromSome-append P (x ∷ xs) ys y =
-      -- y comes from the first state, from another one of xs, or from one of ys
-      let more = FromSome-append P xs ys y in (
-        λ h. elim h [
-          | inl first ↦ elim first [ inl here ↦ inl here | inr rest ↦ inr (more.0 (inl rest)) ]
-          | inr later ↦ inr (more.0 (inr later))
-        ],
-        -- the converse: what leads from the first element or from one of the others
-        λ h. elim h [
-          | inl here ↦ inl (inl here)
-          | inr rest ↦ elim (more.1 rest) [ inl first ↦ inl (inr first) | inr later ↦ inr later ]
-        ],
-      )
+  FromSome-append P (x ∷ xs) ys y = grind (arith, nat_tests, FromSome-append P xs ys y)
 
   -- what leads in one way from one of the states, or in another way from one, leads from one of them in one of the two ways
   pub FromSome-either : (P Q : S → X → Type 0) (xs : List S) (y : X) → (FromSome P xs y ⊎ FromSome Q xs y) ↔ FromSome (λ x y. P x y ⊎ Q x y) xs y
   FromSome-either P Q [] y = (λ h. elim h [ inl none ↦ none | inr none ↦ none ], λ none. inl none)
-  FromSome-either P Q (x ∷ xs) y =
-      -- y comes from the first state or from another one, in either way
-      let more = FromSome-either P Q xs y in (
-        λ h. elim h [
-          | inl p ↦ elim p [ inl here ↦ inl (inl here) | inr rest ↦ inr (more.0 (inl rest)) ]
-          | inr q ↦ elim q [ inl here ↦ inl (inr here) | inr rest ↦ inr (more.0 (inr rest)) ]
-        ],
-        -- the converse: what leads in one of the two ways from one of the elements
-        λ h. elim h [
-          | inl here ↦ elim here [ inl p ↦ inl (inl p) | inr q ↦ inr (inl q) ]
-          | inr rest ↦ elim (more.1 rest) [ inl p ↦ inl (inr p) | inr q ↦ inr (inr q) ]
-        ],
-      )
+  FromSome-either P Q (x ∷ xs) y = grind (arith, nat_tests, FromSome-either P Q xs y)
 
   -- where two relations are the same, the states to which they lead from some states are the same
   pub FromSome-same : (P Q : S → X → Type 0) → ((x : S) (y : X) → P x y ↔ Q x y) → (xs : List S) (y : X) → FromSome P xs y ↔ FromSome Q xs y
   FromSome-same P Q same [] y = (λ none. none, λ none. none)
-  FromSome-same P Q same (x ∷ xs) y =
-      let here = same x y in
-      -- y comes from the first state, or from another one
-      let more = FromSome-same P Q same xs y in (
-        λ h. elim h [ inl p ↦ inl (here.0 p) | inr rest ↦ inr (more.0 rest) ],
-        λ h. elim h [ inl q ↦ inl (here.1 q) | inr rest ↦ inr (more.1 rest) ],
-      )
+  FromSome-same P Q same (x ∷ xs) y = grind (arith, nat_tests, same x y, FromSome-same P Q same xs y)
 
   -- where nothing leads from each of some states to y, nothing leads from one of them to y
   pub FromSome-none : (P : S → X → Type 0) (xs : List S) (y : X) → All (λ x. ¬ (P x y)) xs → FromSome P xs y → ⊥

@@ -1,10 +1,5 @@
 -- Prints by slots: how the newest print of each slot, and beside each print the one before it in its slot, lead to an equal print.
-use Rattle.std.proofs.Common.{◌≡◌, ◌≢◌, ◌<◌, ◌≤◌, ◌+◌, ◌-◌, ◌++◌, ◌∷◌, ◌∙◌, [], ℕ, List, get_or, length, arith, ap, subst, sym, set}
-use Rattle.std.proofs.lemmas.Bool.Decides.{nat_tests}
-use Rattle.std.proofs.lemmas.List.{get_or-map, length-map, map-append, length-set, length_push, get_or_append_left, get_or_push, get_or-set_same, get_or-set_other}
-use Rattle.std.proofs.lemmas.Bool.{cases_eq, cases_lt}
-use Rattle.sip_machine.specs.declared.slots.SlotPrint.{SlotPrint}
-use Rattle.sip_machine.specs.inner.Slots.{Slotted, AreSlots, IsNewest, IsReached, slot_of, slotted}
+use Rattle.sip_machine.proofs.Words.{◌≡◌, ◌≢◌, ◌<◌, ◌≤◌, ◌+◌, ◌-◌, ◌++◌, ◌∷◌, ◌∙◌, [], ℕ, List, get_or, length, arith, ap, subst, sym, set, nat_tests, get_or-map, length-map, map-append, length-set, length_push, get_or_append_left, get_or_push, get_or-set_same, get_or-set_other, cases_eq, cases_lt, SlotPrint, Slotted, AreSlots, IsNewest, IsReached, slot_of, slotted}
 
 -- the prints of the pairs that the code keeps are as many as the pairs
 pub pairs-count : (newest : List ℕ) (kept : List SlotPrint) (s : Slotted) → slotted newest kept ≡ s → length s.prints ≡ length kept

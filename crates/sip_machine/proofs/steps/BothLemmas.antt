@@ -1,14 +1,5 @@
 -- At most two states of the code stand for all to which an event leads.
-use Rattle.std.specs.Prelude.{◌≡◌, ◌≢◌, ◌↔◌, ◌⊎◌, ℕ, Option, Some, None, List, [], ◌∷◌}
-use Rattle.std.proofs.Common.{inl, inr, refl, sym, arith}
-use Rattle.std.proofs.lemmas.Bool.Decides.{nat_tests}
-use Rattle.std.proofs.lemmas.List.Elements.{All-nil, All-cons, Contains-push, Contains-push_cases}
-use Rattle.std.proofs.lemmas.List.Kept.{AllPairs-cons}
-use Rattle.sip_machine.specs.Texts.{Texts}
-use Rattle.sip_machine.specs.Rules.{Knows, StandFor}
-use Rattle.sip_machine.specs.inner.Effects.{OrStays}
-use Rattle.sip_machine.specs.inner.Single.{AnswersOne}
-use Rattle.sip_machine.specs.inner.Both.{AnswersBoth}
+use Rattle.sip_machine.proofs.Words.{◌≡◌, ◌≢◌, ◌↔◌, ◌⊎◌, ℕ, Option, Some, None, List, [], ◌∷◌, inl, inr, refl, sym, arith, nat_tests, All-nil, All-cons, Contains-push, Contains-push_cases, AllPairs-cons, Texts, Knows, StandFor, OrStays, AnswersOne, AnswersBoth}
 use Rattle.sip_machine.proofs.texts.TextLaws.{Contains-nil}
 use Rattle.sip_machine.proofs.steps.SingleLemmas.{StandFor-none, StandFor-one}
 

@@ -1,12 +1,4 @@
-use Rattle.std.proofs.Common.{◌∙◌, ap, get_or, subst, sym}
-use Rattle.std.specs.Prelude.{All, IfOk}
-use Rattle.std.proofs.lemmas.Result.{IfOk-weaker}
-use Rattle.sip_standard.specs.Solid.{solid}
-use Rattle.sip_machine.specs.Owes.{owed_in, owes_names}
-use Rattle.sip_machine.specs.Texts.{Keeps, text_of}
-use Rattle.sip_machine.specs.inner.Acks.{HasTo, PaysDebt}
-use Rattle.sip_machine.specs.inner.Paying.{FindsFirst}
-use Rattle.sip_message.proofs.lemmas.says.Reading.{says-no_fault}
+use Rattle.sip_machine.proofs.Words.{◌∙◌, ap, get_or, subst, sym, All, IfOk, IfOk-weaker, solid, owed_in, owes_names, Keeps, text_of, HasTo, PaysDebt, FindsFirst, says-no_fault}
 use Rattle.sip_machine.proofs.acks.AckLemmas.{AckOf-by_to, AckOf-none}
 use Rattle.sip_machine.proofs.acks.HolderLemmas.{FindsFirst-same}
 use Rattle.sip_machine.proofs.invite_client.acks.first_acked.Goals as goal

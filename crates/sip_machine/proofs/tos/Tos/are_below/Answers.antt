@@ -1,5 +1,5 @@
 -- Of the invariant of Tos (`c.self.invariant`) part 0 says that the numbers of the messages rise, and 1 that each stands under its hash, if hashes are kept.
-use Rattle.std.proofs.Common.{◌<◌, Some}
+use Rattle.sip_machine.proofs.Words.{◌<◌, Some}
 use Rattle.sip_machine.proofs.steps.PayableLemmas.{lower}
 use Rattle.sip_machine.proofs.acks.ToLemmas.{below_last}
 use Rattle.sip_machine.proofs.tos.Tos.are_below.Goals as goal

@@ -280,12 +280,8 @@ impl<P: Phase> Pool<P> {
         let mut at = from;
         while at < self.len() {
             let end = self.run_end(at, self.len());
-            mix(
-                &mut prints,
-                at - from,
-                end - from,
-                hash_of(&self.phases[at]),
-            );
+            let hash = hash_of(&self.phases[at]);
+            mix(&mut prints, at - from, end - from, hash);
             at = end;
         }
         Ok(prints)

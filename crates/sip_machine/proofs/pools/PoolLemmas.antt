@@ -84,6 +84,11 @@ module _ {S : Type 0} where
       get_or xs k x ≡ state_in (get_or phases k p) rows k
   state-at phases rows xs k p x is low = ap (λ ys. get_or ys k x) (sym is) ∙ beside-at phases rows k p x (in-phases phases rows xs k is low)
 
+  -- the phase of the state at k is the phase at k
+  pub phase-at : (phases : List S) (rows : List (List Debt)) (xs : List (CodeOwing S)) (k : ℕ) (p : S) (x : CodeOwing S) → beside phases rows ≡ xs → k < length xs →
+      p ≡ get_or phases k p → (get_or xs k x).phase ≡ p
+  phase-at phases rows xs k p x is low is_p = ap (λ z. z.phase) (state-at phases rows xs k p x is low) ∙ sym is_p
+
   -- the phase at k with what row k has is the state at k
   pub state-here : (phases : List S) (rows : List (List Debt)) (xs : List (CodeOwing S)) (k : ℕ) (p : S) (x : CodeOwing S) → beside phases rows ≡ xs → k < length xs →
       p ≡ get_or phases k p → state_in p rows k ≡ get_or xs k x
@@ -131,15 +136,22 @@ module _ {X : Type 0} where
   set-end (z ∷ old) x y = ap (λ xs. z ∷ xs) (set-end old x y)
 
   -- where x was put after the old elements, and the last one is then changed by f, the list is the old elements and f x
-  pub set-last : (old more new : List X) (x d : X) (last : ℕ) (f : X → X) → more ≡ old ++ x ∷ [] → last ≡ length old → new ≡ set more last (f (get_or more last d)) → new ≡ old ++ f x ∷ []
+  set-last : (old more new : List X) (x d : X) (last : ℕ) (f : X → X) → more ≡ old ++ x ∷ [] → last ≡ length old → new ≡ set more last (f (get_or more last d)) → new ≡ old ++ f x ∷ []
   set-last old more new x d last f is at changed = grind (arith, get_or-append_seam, set-end)
 
   -- where elements were put after the old ones, the first as many as there were are the old ones
   pub take-old : (old added new : List X) (n : ℕ) → new ≡ old ++ added → n ≡ length old → take n new ≡ old
   take-old old added new n is at = ap₂ take at is ∙ take-append_seam old added
 
+  -- where a copy of the element at k was put after the old ones, and is then changed by f, f of that element stands after the old ones
+  pub copy-changed : (old more new : List X) (k last : ℕ) (f : X → X) → k < length old → HoldsAt (λ x. more ≡ old ++ x ∷ []) old k → last ≡ length old →
+      HoldsAt (λ x. new ≡ set more last (f x)) more last → HoldsAt (λ x. new ≡ old ++ f x ∷ []) old k × (take (length old) new ≡ old)
+  copy-changed old more new k last f low copied at changed =
+      let is : HoldsAt (λ x. new ≡ old ++ f x ∷ []) old k = λ d. set-last old more new (get_or old k d) d last f (copied d) at (changed d) in
+      (is, take-old old _ new (length old) (is (some-at old k low)) refl)
+
 -- how phases and rows of a pool stand beside each other: the lemmas that `using(..)` gives the prover in `src/pool.rt`
-pub ruleset of_pool = (beside-length, beside_push, beside-set, beside-take, empty-length, in-phases, in-rows, rested-set, state-at, same-state, take-append_seam, take_all, length_push, not-shorter, front-again)
+pub ruleset of_pool = (beside-length, phase-at, beside_push, beside-set, beside-take, empty-length, in-phases, in-rows, rested-set, state-at, same-state, take-append_seam, take_all, length_push, not-shorter, front-again)
 
 -- what is left in a pool after the first states: the lemmas that `using(..)` gives the prover in `src/pool.rt`
 pub ruleset of_drop = (beside-length, beside-drop, dropped-first, length-drop)

@@ -5,15 +5,14 @@ use Rattle.sip_machine.proofs.Words.{◌≡◌, ◌≢◌, ◌<◌, ◌≤◌, �
 pub pairs-count : (newest : List ℕ) (kept : List SlotPrint) (s : Slotted) → slotted newest kept ≡ s → length s.prints ≡ length kept
 pairs-count newest kept s is = ap (λ (s : Slotted). length s.prints) (sym is) ∙ length-map kept (λ x. x.print)
 
--- the print at a place is that of the pair there
-pub pair-print : (newest : List ℕ) (kept : List SlotPrint) (s : Slotted) (at : ℕ) (x : SlotPrint) → slotted newest kept ≡ s → at < length s.prints → x ≡ get_or kept at x → get_or s.prints at 0 ≡ x.print
-pair-print newest kept s at x is low here =
-    ap (λ (s : Slotted). get_or s.prints at 0) (sym is) ∙ get_or-map (λ x. x.print) kept at x 0 (subst (λ n. at < n) (pairs-count newest kept s is) low) ∙ ap (λ (x : SlotPrint). x.print) (sym here)
-
--- what a print leads to is what the pair at its place says
-pub pair-older : (newest : List ℕ) (kept : List SlotPrint) (s : Slotted) (at : ℕ) (x : SlotPrint) → slotted newest kept ≡ s → at < length s.prints → x ≡ get_or kept at x → get_or s.olders at 0 ≡ x.older
-pair-older newest kept s at x is low here =
-    ap (λ (s : Slotted). get_or s.olders at 0) (sym is) ∙ get_or-map (λ x. x.older) kept at x 0 (subst (λ n. at < n) (pairs-count newest kept s is) low) ∙ ap (λ (x : SlotPrint). x.older) (sym here)
+-- the print at a place, and what it leads to, are what the pair there says
+pub pair-at : (newest : List ℕ) (kept : List SlotPrint) (s : Slotted) (at : ℕ) (x : SlotPrint) → slotted newest kept ≡ s → at < length s.prints → x ≡ get_or kept at x →
+    (get_or s.prints at 0 ≡ x.print) × (get_or s.olders at 0 ≡ x.older)
+pair-at newest kept s at x is low here =
+    let low' = subst (λ n. at < n) (pairs-count newest kept s is) low in (
+      ap (λ (s : Slotted). get_or s.prints at 0) (sym is) ∙ get_or-map (λ x. x.print) kept at x 0 low' ∙ ap (λ (x : SlotPrint). x.print) (sym here),
+      ap (λ (s : Slotted). get_or s.olders at 0) (sym is) ∙ get_or-map (λ x. x.older) kept at x 0 low' ∙ ap (λ (x : SlotPrint). x.older) (sym here),
+    )
 
 -- What follows is of a print that is put under its slot.
 

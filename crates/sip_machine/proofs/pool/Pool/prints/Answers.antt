@@ -22,7 +22,7 @@ loop-at-preserved g c =
       omega (arith, high),
       -- the hash of this phase was mixed into the prints of the run the prints are as many as before (`c.mix.auto.prints`)
       rw (with_items_is c.loop-at.prints c.mix.new.prints (c.mix.auto.prints ∙ c.deref_mut.ensures.len)) (
-          mixed-run g.P.Hash.hash_input phases c.args.from old c.loop-at.prints.items c.mix.new.prints (at - c.args.from) (to - c.args.from) c.hash_of.result p mixing (rw c.deref_mut.ensures.value at c.mix.ensures) c.hash_of.ensures
+          mixed-run g.P.Hash.hash_input phases c.args.from old c.loop-at.prints.items c.mix.new.prints (at - c.args.from) (to - c.args.from) c.hash_of-hash.result p mixing (rw c.deref_mut.ensures.value at c.mix.ensures) c.hash_of-hash.ensures
           (omega (arith, order.0))
           (λ k q above below inside.
           -- the phase at each place of the run is the one whose hash was mixed

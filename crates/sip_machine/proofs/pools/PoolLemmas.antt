@@ -1,6 +1,6 @@
 -- The states of a pool: a list of phases and a list of what is owed, read as one list.
 use Prim.Native.Nat.{suc, zero}
-use Rattle.sip_machine.proofs.Words.{◌≡◌, ◌==◌, ◌↔◌, ◌<◌, ◌≤◌, ℕ, IsTrue, List, [], ◌∷◌, ◌++◌, drop, get_or, length, set, take, HoldsAt, refl, sym, ◌∙◌, ap, ap₂, subst, arith, nat_tests, get_or-append_seam, take-append_seam, length-drop, set-get_or, length-take, length_push, take-take, take_all, dropped-first, Debt, CodeOwing, at_rest, state_in, Rest, Stays, Pays, owed_in, rested_debts, rests_at, beside}
+use Rattle.sip_machine.proofs.Words.{◌≡◌, ◌==◌, ◌↔◌, ◌<◌, ◌≤◌, ℕ, IsTrue, List, [], ◌∷◌, ◌++◌, drop, get_or, length, set, take, HoldsAt, refl, sym, ◌∙◌, ap, ap₂, subst, arith, nat_tests, get_or-append_seam, take-append_seam, length-drop, set-get_or, set_at, length-take, length_push, take-take, take_all, dropped-first, Debt, CodeOwing, at_rest, state_in, Rest, Stays, Pays, owed_in, rested_debts, rests_at, beside}
 
 -- What follows is of phases beside the rows of what is owed, as the states of a pool.
 module _ {S : Type 0} where
@@ -130,14 +130,9 @@ module _ {X : Type 0} where
   alone-set (y ∷ []) x one = refl
   alone-set (y ∷ z ∷ xs) x one = absurd (omega (arith, one))
 
-  -- the element that was put last is replaced at its place
-  set-end : (old : List X) (x y : X) → set (old ++ x ∷ []) (length old) y ≡ old ++ y ∷ []
-  set-end [] x y = refl
-  set-end (z ∷ old) x y = ap (λ xs. z ∷ xs) (set-end old x y)
-
   -- where x was put after the old elements, and the last one is then changed by f, the list is the old elements and f x
   set-last : (old more new : List X) (x d : X) (last : ℕ) (f : X → X) → more ≡ old ++ x ∷ [] → last ≡ length old → new ≡ set more last (f (get_or more last d)) → new ≡ old ++ f x ∷ []
-  set-last old more new x d last f is at changed = grind (arith, get_or-append_seam, set-end)
+  set-last old more new x d last f is at changed = grind (arith, get_or-append_seam, set_at)
 
   -- where elements were put after the old ones, the first as many as there were are the old ones
   pub take-old : (old added new : List X) (n : ℕ) → new ≡ old ++ added → n ≡ length old → take n new ≡ old

@@ -25,20 +25,10 @@ module _ {X S : Type 0} (names : S → List ℕ) (InRange : S → Type 0) (seen 
       StandFor-none names InRange seen texts (λ x. P x ⊎ Q x) (λ x h. elim h [ inl p ↦ none x p | inr q ↦ none' x q ])
   -- only Q has a state
   AnswersBoth-two P Q apart None (Some t) none one =
-      StandFor-one names InRange seen texts (λ x. P x ⊎ Q x) t
-      (record {
-        only = λ x. (λ h. elim h [ inl p ↦ absurd (none x p) | inr q ↦ (one.only x).0 q ], λ e. inr ((one.only x).1 e));
-        known = one.known;
-        in_range = one.in_range;
-      })
+      StandFor-same Q (λ x. P x ⊎ Q x) (λ x. (λ q. inr q, λ h. elim h [ inl p ↦ absurd (none x p) | inr q ↦ q ])) (t ∷ []) (StandFor-one names InRange seen texts Q t one)
   -- only P has a state
   AnswersBoth-two P Q apart (Some s) None one none =
-      StandFor-one names InRange seen texts (λ x. P x ⊎ Q x) s
-      (record {
-        only = λ x. (λ h. elim h [ inl p ↦ (one.only x).0 p | inr q ↦ absurd (none x q) ], λ e. inl ((one.only x).1 e));
-        known = one.known;
-        in_range = one.in_range;
-      })
+      StandFor-same P (λ x. P x ⊎ Q x) (λ x. (λ p. inl p, λ h. elim h [ inl p ↦ p | inr q ↦ absurd (none x q) ])) (s ∷ []) (StandFor-one names InRange seen texts P s one)
   -- both P and Q have a state, and the two states are not the same
   AnswersBoth-two P Q apart (Some s) (Some t) one other =
       record {

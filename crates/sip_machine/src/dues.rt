@@ -167,14 +167,11 @@ impl Dues {
         ensures ok { OnOk result (self.new ≡ set self.old row (filter (counts_at moment) (owed_in self.old row ++ debt ∷ []))) }
         ensures err { OnErr result (self.new ≡ self.old) }
     {
-        match &mut self.rows {
-            Rows::WithAccounts(accounts) => accounts.gain_and_expire(row, debt, moment)?,
-            Rows::Blank(count) => {
-                let mut accounts = blank(alloc, *count)?;
-                accounts.gain_and_expire(row, debt, moment)?;
-                self.rows = Rows::WithAccounts(Box::new(alloc, accounts)?);
-            }
-        }
+        rows!(&mut self.rows, accounts => accounts.gain_and_expire(row, debt, moment)?, count => {
+            let mut accounts = blank(alloc, *count)?;
+            accounts.gain_and_expire(row, debt, moment)?;
+            self.rows = Rows::WithAccounts(Box::new(alloc, accounts)?);
+        });
         Ok(())
     }
 
@@ -183,14 +180,11 @@ impl Dues {
         ensures ok { OnOk result (self.new ≡ take from self.old ++ map (λ owes. owes ++ debt ∷ []) (drop from self.old)) }
         ensures err { OnErr result (take from self.new ≡ take from self.old) }
     {
-        match &mut self.rows {
-            Rows::WithAccounts(accounts) => accounts.gain_each(from, debt)?,
-            Rows::Blank(count) => {
-                let mut accounts = blank(alloc, *count)?;
-                accounts.gain_each(from, debt)?;
-                self.rows = Rows::WithAccounts(Box::new(alloc, accounts)?);
-            }
-        }
+        rows!(&mut self.rows, accounts => accounts.gain_each(from, debt)?, count => {
+            let mut accounts = blank(alloc, *count)?;
+            accounts.gain_each(from, debt)?;
+            self.rows = Rows::WithAccounts(Box::new(alloc, accounts)?);
+        });
         Ok(())
     }
 

@@ -1,5 +1,5 @@
 -- The To that stands beside a kept message stays what it is, and tells which of the messages has a To.
-use Rattle.sip_machine.proofs.Words.{◌≡◌, ◌==◌, ◌≢◌, ◌<◌, ◌≤◌, ◌↔◌, ◌-◌, ◌+◌, ◌&&◌, ℕ, Bool, true, false, cond, IfSome, IsTrue, Option, Some, None, bytes_eq, List, [], ◌∷◌, ◌++◌, All, AllPairs, Contains, is_some, length, map, slice_get, take, items_where_true, bytes_decides, true≢false, inl, inr, refl, sym, ◌∙◌, ap, ap₂, subst, arith, get_or, nat_tests, and-false, cases_lt, eq-eqb, ne_eqb, get_or_picked, slice_get-get_or, get_or_from_slice_get, get_or-map, get_or-take, length-map, length-take-le, take_all, All-contains, All-contains_itself, All-from_retain, IsFiltered, All-get_or, All-push, All-weaker, AllPairs-cons, AllPairs-head, AllPairs-tail, holds, same_reading, solid, Texts, IsBook, Keeps, text_of, only, To, full_hash, IsToOf, IsTo, AreTos, AreUnder, StandUnder, IsChanged, IsUnder, count_between}
+use Rattle.sip_machine.proofs.Words.{◌≡◌, ◌≢◌, ◌<◌, ◌≤◌, ◌↔◌, ◌-◌, ◌+◌, ◌&&◌, ℕ, Bool, true, false, cond, IfSome, IsTrue, Option, Some, None, bytes_eq, List, [], ◌∷◌, ◌++◌, All, AllPairs, Contains, is_some, length, map, slice_get, take, items_where_true, bytes_decides, true≢false, refl, sym, ◌∙◌, ap, ap₂, subst, arith, get_or, nat_tests, and-false, cases_lt, eq-eqb, ne_eqb, get_or_picked, slice_get-get_or, get_or_from_slice_get, get_or-map, get_or-take, length-map, length-take-le, take_all, All-contains, All-contains_itself, All-from_retain, IsFiltered, All-get_or, All-push, All-weaker, AllPairs-cons, AllPairs-head, AllPairs-tail, holds, same_reading, solid, Texts, IsBook, Keeps, text_of, only, To, full_hash, IsToOf, IsTo, AreTos, AreUnder, StandUnder, IsChanged, IsUnder, count_between}
 use Rattle.sip_machine.proofs.texts.BesideLemmas.{among-all, count_between-is, many}
 use Rattle.sip_machine.proofs.texts.TextLaws.{Keeps-grow, text_of-grow}
 use Rattle.sip_machine.proofs.texts.RetainLemmas.{only-Keeps, text_of-only}
@@ -66,12 +66,8 @@ before_last tos last up is k d low =
 pub below_last : (tos : List To) (number : ℕ) (last : Option To) → AllPairs below tos → last ≡ slice_get tos (length tos - 1) → IfSome last (λ to. to.number < number) →
     All (λ to. to.number < number) tos
 below_last tos number None up is low = λ k d within. absurd (let e = is ∙ slice_get-get_or tos (length tos - 1) d (omega (arith, within)) in cc)
-below_last tos number (Some last) up is low = λ k d within. elim (cases_lt k (length tos - 1)) [
-  | inl before ↦ (let lt = before_last tos last up is k d before in omega (arith, lt, low))
-  | inr there ↦
-      let same : k ≡ length tos - 1 = omega (arith, there, within) in
-      subst (λ (to : To). to.number < number) (sym (ap (λ i. get_or tos i d) same ∙ get_or_from_slice_get tos (length tos - 1) last d (sym is))) low
-]
+below_last tos number (Some last) up is low = λ k d within.
+    grind (arith, nat_tests, before_last tos last up is k d, get_or_from_slice_get tos (length tos - 1) last d (sym is))
 
 -- the Tos before the last one have numbers below its
 pub front_below : (tos : List To) (last : To) → AllPairs below tos → Some last ≡ slice_get tos (length tos - 1) → All (λ to. to.number < last.number) (take (length tos - 1) tos)
@@ -139,11 +135,9 @@ pub under-taken : (hash number : ℕ) (old new : Option (List (ℕ × ℕ))) (to
 under-taken hash number old None tos changed lower under = λ k d low. tt
 under-taken hash number None (Some new) tos changed lower under = absurd changed
 under-taken hash number (Some old) (Some new) tos changed lower under = λ k d low.
-    let to = get_or tos k d in
-    let h = full_hash to.text in
     let less = lower k d low in
-    let other : (to.number == number) ≡ false = ne_eqb to.number number (λ same. absurd (omega (arith, less, same))) in
-    changed h to.number ∙ ap (λ b. cond b false (holds old h to.number)) (ap (λ b. h == hash && b) other ∙ and-false (h == hash)) ∙ under k d low
+    let stood = under k d low in
+    grind (arith, nat_tests, changed (full_hash (get_or tos k d).text) (get_or tos k d).number, ne_eqb, and-false)
 
 -- where no hashes are kept, nothing is claimed of them
 pub none-under : (hashes : Option (List (ℕ × ℕ))) (tos : List To) → is_some hashes ≡ false → AreUnder hashes tos

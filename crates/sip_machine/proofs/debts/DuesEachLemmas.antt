@@ -17,8 +17,8 @@ mapped-twice f g h is (suc from) (owes ∷ rows) = ap (λ more. owes ∷ more) (
 -- where a change leaves an empty list of debts empty, rows that owe nothing stay as they are
 pub mapped-none : (f : List Debt → List Debt) (count from : ℕ) → f [] ≡ [] → blank_rows count ≡ take from (blank_rows count) ++ map f (drop from (blank_rows count))
 mapped-none f count from is =
-    let rest = map_fixed f (drop from (blank_rows count)) (All-drop (λ owes. f owes ≡ owes) from (blank_rows count) (All-replicate (λ owes. f owes ≡ owes) count [] is)) in
-    sym (ap (λ rows. take from (blank_rows count) ++ rows) rest ∙ take-append-drop from (blank_rows count))
+    let all = All-drop (λ owes. f owes ≡ owes) from (blank_rows count) (All-replicate (λ owes. f owes ≡ owes) count [] is) in
+    grind (arith, map_fixed f (drop from (blank_rows count)) all, take-append-drop)
 
 -- of rows that owe nothing, those from one index up to another owe nothing
 some-none : (count from to : ℕ) → to ≤ count → from_to from to (blank_rows count) ≡ blank_rows (to - from)

@@ -26,11 +26,6 @@ module _ {S : Type 0} where
   beside-append (phase ∷ phases) more [] again long = absurd (omega (arith, long))
   beside-append (phase ∷ phases) more (row ∷ rows) again long = grind (arith, nat_tests, beside-append phases more rows again)
 
-  -- where a phase and a row are put after the others, the state of these comes after the others
-  pub beside_push : (phases : List S) (rows : List (List Debt)) (phase : S) (row : List Debt) → length rows ≡ length phases →
-      beside (phases ++ phase ∷ []) (rows ++ row ∷ []) ≡ beside phases rows ++ record { phase = phase; owes = row } ∷ []
-  beside_push phases rows phase row long = beside-append phases (phase ∷ []) rows (row ∷ []) long
-
   -- the first n phases beside the first n rows are the first n states
   pub beside-take : (phases : List S) (rows : List (List Debt)) (n : ℕ) → length rows ≡ length phases → beside (take n phases) (take n rows) ≡ take n (beside phases rows)
   beside-take [] rows zero long = refl
@@ -67,9 +62,7 @@ module _ {S : Type 0} where
       set (beside phases rows) k (rests_at t rest (get_or (beside phases rows) k x)) ≡ beside phases (set rows k (rested_debts t rest (owed_in rows k)))
   rested-set phases rows k t rest x long low =
       let p = get_or phases k x.phase in
-      let row = rested_debts t rest (owed_in rows k) in
-      ap (set (beside phases rows) k) (ap (rests_at t rest) (beside-at phases rows k x.phase x low) ∙ rests-owes t rest (state_in p rows k))
-      ∙ sym (beside-set phases rows k p row long) ∙ ap (λ ps. beside ps (set rows k row)) (set-get_or phases k x.phase)
+      grind (arith, beside-at phases rows k x.phase x low, rests-owes t rest (state_in p rows k), beside-set phases rows k p (rested_debts t rest (owed_in rows k)) long, set-get_or phases k x.phase)
 
   -- an index of a state is one of a phase, and of a row
   pub in-phases : (phases : List S) (rows : List (List Debt)) (xs : List (CodeOwing S)) (k : ℕ) → beside phases rows ≡ xs → k < length xs → k < length phases
@@ -144,7 +137,7 @@ module _ {X : Type 0} where
       (is, take-old old _ new (length old) (is (some-at old k low)) refl)
 
 -- how phases and rows of a pool stand beside each other: the lemmas that `using(..)` gives the prover in `src/pool.rt`
-pub ruleset of_pool = (beside-length, phase-at, beside_push, beside-set, beside-take, empty-length, in-phases, in-rows, rested-set, state-at, same-state, take-append_seam, take_all, length_push, not-shorter, front-again)
+pub ruleset of_pool = (beside-length, phase-at, beside-append, beside-set, beside-take, empty-length, in-phases, in-rows, rested-set, state-at, same-state, take-append_seam, take_all, length_push, not-shorter, front-again)
 
 -- what is left in a pool after the first states: the lemmas that `using(..)` gives the prover in `src/pool.rt`
 pub ruleset of_drop = (beside-length, beside-drop, dropped-first, length-drop)

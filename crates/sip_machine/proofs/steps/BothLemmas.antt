@@ -61,8 +61,4 @@ module _ {X S : Type 0} (names : S → List ℕ) (InRange : S → Type 0) (seen 
 -- where P holds of z alone, a received message that leads where P says leads to z alone
 -- x is the state before the message, and y any state to which it leads
 pub OrStays-one : {X : Type 0} (P : X → Type 0) (x z : X) → ((y : X) → P y ↔ (y ≡ z)) → (y : X) → OrStays P x y ↔ (y ≡ z)
-OrStays-one P x z only y = (
-  -- where P holds of y, y is z; and the state does not stay, since P holds of z
-  λ h. elim h [ inl p ↦ (only y).0 p | inr stays ↦ absurd (stays.0 z ((only z).1 refl)) ],
-  λ e. inl ((only y).1 e),
-)
+OrStays-one P x z only y = grind (arith, nat_tests, only y, (only z).1 refl)

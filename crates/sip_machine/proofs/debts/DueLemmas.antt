@@ -1,6 +1,6 @@
 -- What many states owe: what a send takes out of the debts of one state, and states that owe nothing.
 use Prim.Native.Nat.{suc, zero}
-use Rattle.sip_machine.proofs.Words.{◌≡◌, ◌<◌, ◌≤◌, ◌-◌, ◌||◌, ℕ, Bool, true, false, IsTrue, List, [], ◌∷◌, ◌++◌, All, filter, length, min, set, take, list_any, refl, sym, ◌∙◌, ap, ap₂, arith, cond, true≢false, list_any_at, All-nil, All-cons, filter-append, get_or-set_same, set-get_or, Debt, counts_at, is_payable, paid_by, IsWithoutFirst, owed_in, blank_rows}
+use Rattle.sip_machine.proofs.Words.{take_min, take-replicate, length-replicate, ◌≤◌, ◌≡◌, ◌<◌, ◌-◌, ◌||◌, ℕ, Bool, true, false, IsTrue, List, [], ◌∷◌, ◌++◌, All, filter, length, min, set, take, list_any, refl, sym, ◌∙◌, ap, ap₂, arith, cond, true≢false, list_any_at, All-nil, All-cons, filter-append, get_or-set_same, set-get_or, Debt, counts_at, is_payable, paid_by, IsWithoutFirst, owed_in, blank_rows}
 
 -- What follows is of a send of one message at the moment t, which can pay one of the debts, or none.
 module _ (message t : ℕ) where
@@ -54,11 +54,10 @@ set_none count row debts is = sym (set-get_or (blank_rows count) row []) ∙ ap 
 
 -- without accounts, the first n rows owe nothing
 pub take_none : (count n : ℕ) → blank_rows (min count n) ≡ take n (blank_rows count)
-take_none zero zero = let e : min 0 0 ≡ 0 = omega arith in ap blank_rows e
-take_none zero (suc n) = let e : min 0 (suc n) ≡ 0 = omega arith in ap blank_rows e
-take_none (suc count) zero = let e : min (suc count) 0 ≡ 0 = omega arith in ap blank_rows e
-take_none (suc count) (suc n) =
-    let e : min (suc count) (suc n) ≡ suc (min count n) = omega arith in ap blank_rows e ∙ ap (λ rows. [] ∷ rows) (take_none count n)
+take_none count n =
+    let same : min count n ≡ min n (length (blank_rows count)) = omega (arith, length-replicate {A = List Debt} count []) in
+    let fits : min count n ≤ count = omega arith in
+    sym (take-replicate (min count n) count [] fits) ∙ ap (λ m. take m (blank_rows count)) same ∙ take_min n (blank_rows count)
 
 -- a row that is changed and then changed again is as if it was changed once, to what the second change makes of the first
 pub set_again : (rows : List (List Debt)) (row : ℕ) (debts : List Debt) (f : List Debt → List Debt) → row < length rows →

@@ -1,6 +1,6 @@
 -- Lists of states that cover what holds of some states, where one may be covered more than once.
-use Prim.Native.Nat.{suc, zero}
-use Rattle.sip_machine.proofs.Words.{◌≡◌, ◌≤◌, ◌<◌, ◌+◌, ◌-◌, ◌↔◌, ◌⊎◌, ℕ, Bool, true, false, Option, Some, None, List, [], ◌∷◌, ◌++◌, All, drop, filter, get_or, length, map, option_to_list, take, inl, inr, refl, sym, ◌∙◌, ap, subst, cond, arith, append-nil, append_assoc, length-append, nat_tests, take-append_seam, get_or-drop, get_or-take, get_or_append_left, length-drop, length-take-le, map-append, take-append-le, All-append, All-drop, All-get_or, All-head, All-nil, All-tail, All-take, Contains-append_cases, Contains-append_left, Contains-append_right, from_to, Texts, Covers, FromSome, Knows, StandFor, AnswersOne}
+use Rattle.sip_machine.proofs.Words.{take-take, take-append-drop, ◌≡◌, ◌≤◌, ◌<◌, ◌+◌, ◌-◌, ◌↔◌, ◌⊎◌, ℕ, Bool, true, false, Option, Some, None, List, [], ◌∷◌, ◌++◌, All, drop, filter, get_or, length, map, option_to_list, take, inl, inr, refl, sym, ◌∙◌, ap, subst, cond, arith, append-nil, append_assoc, nat_tests, get_or-drop, get_or-take, get_or_append_left, length-drop, length-take-le, map-append, take-append-le, All-append, All-drop, All-get_or, All-head, All-nil, All-tail, All-take, Contains-append_cases, Contains-append_left, Contains-append_right, from_to, Texts, Covers, FromSome, Knows, StandFor, AnswersOne}
+use Rattle.sip_machine.proofs.pools.PoolLemmas.{front-again, take-old}
 use Rattle.sip_machine.proofs.texts.TextLaws.{Contains-nil}
 use Rattle.sip_machine.proofs.steps.SingleLemmas.{StandFor-one}
 
@@ -121,16 +121,9 @@ module _ {X S : Type 0} (names : S → List ℕ) (InRange : S → Type 0) (seen 
 
 -- What follows is of parts of a list of states, from one index up to another.
 module _ {S : Type 0} where
-  -- the first n of the first m elements are the first n, where n is not above m
-  take-shorter : (n m : ℕ) (xs : List S) → n ≤ m → take n (take m xs) ≡ take n xs
-  take-shorter zero m xs le = refl
-  take-shorter (suc n) zero xs le = absurd (omega (arith, le))
-  take-shorter (suc n) (suc m) [] le = refl
-  take-shorter (suc n) (suc m) (x ∷ xs) le = ap (λ ys. x ∷ ys) (take-shorter n m xs (omega (arith, le)))
-
   -- what holds of the first `count` states holds of those from one index up to another, if the latter is not above `count`
   pub slice-all : (P : S → Type 0) (from to count : ℕ) (xs : List S) → to ≤ count → All P (take count xs) → All P (from_to from to xs)
-  slice-all P from to count xs le all = All-drop P from (take to xs) (subst (All P) (take-shorter to count xs le) (All-take P to (take count xs) all))
+  slice-all P from to count xs le all = All-drop P from (take to xs) (subst (All P) (take-take to count xs le) (All-take P to (take count xs) all))
 
   -- where others are put after the states, those from one index up to another are the same
   pub slice-old : (from to : ℕ) (old found new : List S) → new ≡ old ++ found → to ≤ length old → from_to from to new ≡ from_to from to old
@@ -147,16 +140,11 @@ module _ {S : Type 0} where
 
   -- the states up to `to` are those up to `at` and those from there up to `to`
   pub take-slice : (at to : ℕ) (xs : List S) → at ≤ to → take to xs ≡ take at xs ++ from_to at to xs
-  take-slice zero to xs le = refl
-  take-slice (suc at) zero xs le = absurd (omega (arith, le))
-  take-slice (suc at) (suc to) [] le = refl
-  take-slice (suc at) (suc to) (x ∷ xs) le = ap (λ ys. x ∷ ys) (take-slice at to xs (omega (arith, le)))
+  take-slice at to xs le = sym (take-append-drop at (take to xs)) ∙ ap (λ ys. ys ++ from_to at to xs) (take-take at to xs le)
 
   -- where states were put after the old ones, and later ones left all these as they were, the old ones are as they were
   pub before-more : (old mid new added : List S) → mid ≡ old ++ added → take (length mid) new ≡ mid → take (length old) new ≡ old
-  before-more old mid new added is stands =
-      let size : length mid ≡ length old + length added = ap length is ∙ length-append old added in
-      sym (take-shorter (length old) (length mid) new (omega (arith, size))) ∙ ap (take (length old)) (stands ∙ is) ∙ take-append_seam old added
+  before-more old mid new added is stands = front-again old mid new (take-old old added mid (length old) is refl) stands
 
   -- what holds of the old states from one index up to another holds of the state at an index between, when others are put after the old ones
   pub slice-at : (P : S → Type 0) (from to k : ℕ) (old found new : List S) (d : S) → new ≡ old ++ found → from ≤ k → k < to → to ≤ length old →

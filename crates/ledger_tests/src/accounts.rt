@@ -58,8 +58,7 @@ impl Played {
     fn push_copy(&mut self, rt: &impl Abort, row: usize) -> Done {
         self.has(rt, row);
         self.accounts.push_copy(row)?;
-        let copy = self.lists[row].clone()?;
-        self.lists.push(copy)?;
+        self.lists.push(self.lists[row].clone()?)?;
         Ok(())
     }
 
@@ -68,8 +67,7 @@ impl Played {
         self.has(rt, from);
         self.has(rt, to);
         self.accounts.copy(from, to);
-        let copy = self.lists[from].clone()?;
-        self.lists[to] = copy;
+        self.lists[to] = self.lists[from].clone()?;
         Ok(())
     }
 
@@ -94,8 +92,7 @@ impl Played {
         for row in from..to {
             holds(rt, row < self.lists.len(), "a row of the lists");
             if is_timely(&self.lists[row], moment) {
-                let copy = self.lists[row].clone()?;
-                self.lists.push(copy)?;
+                self.lists.push(self.lists[row].clone()?)?;
             }
         }
         Ok(())
@@ -237,18 +234,19 @@ impl Played {
         Ok(())
     }
 
-    /// The first debt that a send of a message pays that stands under a key is the first such debt of this list. It is found in three steps,
-    /// perhaps in fewer, and not in none.
+    /// The first debt that a send of a message pays that stands under a key is the first such debt of this list.
     fn pays_one_first(&self, rt: &impl Abort, row: usize, list: &[Debt], moment: u64) -> Done {
         // Each two of the messages 0, 1 and 2.
-        for messages in [[2, 1], [0, 2], [1, 0]] {
+        for two in [[2, 1], [0, 2], [1, 0]] {
             let mut index = Index::new(self.alloc);
             // Two messages stand under the key 7, and others under the keys beside it.
-            for (key, message) in [(7, messages[0]), (7, messages[1]), (6, 0), (8, 3)] {
+            for (key, message) in [(7, two[0]), (7, two[1]), (6, 0), (8, 3)] {
                 index.put(key, message)?;
             }
-            let wants = first_of(list, messages, moment);
-            self.pays_first(rt, row, &index, moment, wants);
+            let mut debts = list.iter();
+            let first = debts.find(|debt| two.contains(&debt.message) && moment <= debt.deadline);
+            let want = first.map(|debt| debt.message);
+            self.pays_first(rt, row, &index, moment, want);
         }
         Ok(())
     }
@@ -323,15 +321,6 @@ fn pays(list: &mut Vec<Debt>, message: u64, moment: u64) -> bool {
     }
     list.retain(|debt| debt.must || moment <= debt.deadline);
     first.is_some()
-}
-
-/// The message of the first debt of the list that a send of one of these messages pays.
-fn first_of(list: &[Debt], [one, other]: [u64; 2], moment: u64) -> Option<u64> {
-    let mut debts = list.iter();
-    let first = debts.find(|debt| {
-        (debt.message == one || debt.message == other) && moment <= debt.deadline
-    });
-    first.map(|debt| debt.message)
 }
 
 /// The least deadline of what must be sent.

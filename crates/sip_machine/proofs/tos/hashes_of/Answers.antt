@@ -1,4 +1,4 @@
-use Rattle.sip_machine.proofs.Words.{◌≡◌, arith, subst, take, take_all, take_more, AreUnder, on_ok}
+use Rattle.sip_machine.proofs.Words.{arith, take, take_all, take_more, on_ok}
 use Rattle.sip_machine.proofs.acks.ToLemmas.{under-put}
 use Rattle.sip_machine.proofs.tos.hashes_of.Goals as goal
 
@@ -12,6 +12,4 @@ loop-at-preserved c =
 
 -- at the end of the loop each To stands under its hash
 pub returns : goal.returns
-returns c =
-    let all : take c.loop-at.at c.args.list.now ≡ c.args.list.now = take_all c.loop-at.at c.args.list.now (omega arith) in
-    subst (AreUnder c.loop-at.hashes) all c.loop-at.invariant
+returns c = rw (take_all c.loop-at.at c.args.list.now (omega arith)) at c.loop-at.invariant

@@ -1,4 +1,4 @@
-use Rattle.sip_machine.proofs.Words.{◌∙◌, ap, get_or, subst, sym, All, IfOk, IfOk-weaker, solid, owed_in, owes_names, Keeps, text_of, HasTo, PaysDebt, FindsFirst, says-no_fault, ◌≡◌, ◌↔◌, ℕ, Bool, false, IsTrue, List, true≢false, Reading, Reads, Said, said_of, says-reads, AckOf, IsAckOf, SameSolid, ack-of_says, IsToOf}
+use Rattle.sip_machine.proofs.Words.{◌∙◌, ap, get_or, subst, sym, IfOk, IfOk-weaker, solid, owed_in, text_of, HasTo, PaysDebt, FindsFirst, says-no_fault, ◌≡◌, ◌↔◌, ℕ, Bool, false, IsTrue, List, true≢false, Reading, Reads, Said, said_of, says-reads, AckOf, IsAckOf, SameSolid, ack-of_says, IsToOf}
 use Rattle.sip_machine.proofs.acks.HolderLemmas.{FindsFirst-same}
 use Rattle.sip_machine.proofs.invite_client.acks.first_acked.Goals as goal
 
@@ -47,8 +47,7 @@ returns-then-not-is_ack_for-clause-finds c =
 
 -- the accounts have what each row owes, and the book keeps the messages of all that the row owes
 pub first_with_to-requires-clause-owed : goal.first_with_to-requires-clause-owed
-first_with_to-requires-clause-owed c =
-    subst (λ rows. All (Keeps c.args.book.now) (owes_names (owed_in rows c.args.row))) (sym c.in-Some-accounts.ensures.some) c.requires.owed
+first_with_to-requires-clause-owed c = rw c.in-Some-accounts.ensures.some c.requires.owed
 
 -- an ACK pays the debts whose response has its To and belongs to the INVITE, so the first with that To is the first that it pays
 pub returns-clause-finds : goal.returns-clause-finds

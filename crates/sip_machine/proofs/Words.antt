@@ -13,13 +13,13 @@ pub use Rattle.std.proofs.lemmas.List.Folds.{list_any_at, map_fixed}
 pub use Rattle.std.proofs.lemmas.List.Kept.{AllPairs-cons}
 pub use Rattle.std.proofs.lemmas.List.Quantifiers.{all_pairs_push}
 pub use Rattle.std.proofs.lemmas.List.Sorted.{IsPartitionedBy-leb, IsPartitionedBy-ltb, answers_always}
-pub use Rattle.std.proofs.lemmas.Option.{get_or_from_slice_get, slice_get-get_or}
+pub use Rattle.std.proofs.lemmas.Option.{get_or_from_slice_get}
 pub use Rattle.std.proofs.lemmas.Result.{IfOk-weaker}
 pub use Rattle.std.specs.Cmp.Lexicographic.{bytes_decides}
 pub use Rattle.std.specs.List.{HoldsAt, items_where_true, list_any}
 pub use Rattle.std.specs.List.Retain.{IsFiltered}
 pub use Rattle.std.specs.Option.{option_map}
-pub use Rattle.std.specs.Prelude.{All, AllPairs, Bool, Contains, IfOk, IfSome, IsTrue, List, None, Option, Some, [], bytes_eq, cond, drop, false, filter, flat_map, get_or, is_some, length, map, min, not, option_to_list, replicate, set, slice_get, take, true, ℕ, ◌&&◌, ◌++◌, ◌+◌, ◌-◌, ◌<◌, ◌==◌, ◌||◌, ◌↔◌, ◌∷◌, ◌≡◌, ◌≢◌, ◌≤◌, ◌⊎◌}
+pub use Rattle.std.specs.Prelude.{All, AllPairs, Bool, Contains, IfOk, IfSome, IsTrue, List, None, Option, Some, [], bytes_eq, cond, drop, false, filter, get_or, is_some, length, map, min, not, option_to_list, replicate, set, slice_get, take, true, ℕ, ◌&&◌, ◌++◌, ◌+◌, ◌-◌, ◌<◌, ◌==◌, ◌||◌, ◌↔◌, ◌∷◌, ◌≡◌, ◌≢◌, ◌≤◌, ◌⊎◌}
 pub use Rattle.std.specs.Vec.{vec_len}
 pub use Rattle.std.specs.declared.cmp.Ordering.TheVariants.{Equal}
 pub use Rattle.sip_key.proofs.AckOfLemmas.{ack-of_says}
@@ -32,7 +32,6 @@ pub use Rattle.sip_ledger.specs.Lists.{from_to}
 pub use Rattle.sip_ledger.specs.Runs.{AreRuns}
 pub use Rattle.sip_ledger.specs.declared.debt.Debt.{Debt}
 pub use Rattle.sip_machine.specs.FigureRules.{After}
-pub use Rattle.sip_machine.specs.Naming.{AppendsAll}
 pub use Rattle.sip_machine.specs.Owes.{owed_in, owes_names}
 pub use Rattle.sip_machine.specs.Owing.{CodeOwing, at_rest}
 pub use Rattle.sip_machine.specs.Retained.{only}

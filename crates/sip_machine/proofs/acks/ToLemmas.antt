@@ -1,5 +1,5 @@
 -- The To that stands beside a kept message stays what it is, and tells which of the messages has a To.
-use Rattle.sip_machine.proofs.Words.{◌≡◌, ◌≢◌, ◌<◌, ◌≤◌, ◌↔◌, ◌-◌, ◌+◌, ◌&&◌, ℕ, Bool, true, false, cond, IfSome, IsTrue, Option, Some, None, bytes_eq, List, [], ◌∷◌, ◌++◌, All, AllPairs, Contains, is_some, length, map, slice_get, take, items_where_true, bytes_decides, true≢false, refl, sym, ◌∙◌, ap, ap₂, subst, arith, get_or, nat_tests, and-false, cases_lt, eq-eqb, ne_eqb, get_or_picked, slice_get-get_or, get_or_from_slice_get, get_or-map, get_or-take, length-map, length-take-le, take_all, All-contains, All-contains_itself, All-from_retain, IsFiltered, All-get_or, All-push, All-weaker, AllPairs-cons, AllPairs-head, AllPairs-tail, holds, same_reading, solid, Texts, IsBook, Keeps, text_of, only, To, full_hash, IsToOf, IsTo, AreTos, AreUnder, StandUnder, IsChanged, IsUnder, count_between}
+use Rattle.sip_machine.proofs.Words.{◌≡◌, ◌≢◌, ◌<◌, ◌≤◌, ◌↔◌, ◌-◌, ◌+◌, ◌&&◌, ℕ, Bool, true, false, cond, IfSome, IsTrue, Option, Some, None, bytes_eq, List, [], ◌∷◌, ◌++◌, All, AllPairs, Contains, is_some, length, map, slice_get, take, items_where_true, bytes_decides, true≢false, refl, sym, ◌∙◌, ap, ap₂, subst, arith, get_or, nat_tests, and-false, cases_lt, eq-eqb, ne_eqb, get_or_picked, get_or_from_slice_get, get_or-map, get_or-take, length-map, length-take-le, take_all, All-contains, All-contains_itself, All-from_retain, IsFiltered, All-get_or, All-push, All-weaker, AllPairs-cons, AllPairs-head, AllPairs-tail, holds, same_reading, solid, Texts, IsBook, Keeps, text_of, only, To, full_hash, IsToOf, IsTo, AreTos, AreUnder, StandUnder, IsChanged, IsUnder, count_between}
 use Rattle.sip_machine.proofs.texts.BesideLemmas.{among-all, count_between-is, many}
 use Rattle.sip_machine.proofs.texts.TextLaws.{Keeps-grow, text_of-grow}
 use Rattle.sip_machine.proofs.texts.RetainLemmas.{only-Keeps, text_of-only}
@@ -62,11 +62,9 @@ before_last tos last up is k d low =
     let lt = up k n d low (omega (arith, low)) in
     subst (λ (to : To). (get_or tos k d).number < to.number) (get_or_from_slice_get tos n last d (sym is)) lt
 
--- where the last To of the list, if there is one, has a number below this one, all have
-pub below_last : (tos : List To) (number : ℕ) (last : Option To) → AllPairs below tos → last ≡ slice_get tos (length tos - 1) → IfSome last (λ to. to.number < number) →
-    All (λ to. to.number < number) tos
-below_last tos number None up is low = λ k d within. absurd (let e = is ∙ slice_get-get_or tos (length tos - 1) d (omega (arith, within)) in cc)
-below_last tos number (Some last) up is low = λ k d within.
+-- where the last To of the list has a number below this one, all have
+pub below_last : (tos : List To) (number : ℕ) (last : To) → AllPairs below tos → Some last ≡ slice_get tos (length tos - 1) → last.number < number → All (λ to. to.number < number) tos
+below_last tos number last up is low = λ k d within.
     grind (arith, nat_tests, before_last tos last up is k d, get_or_from_slice_get tos (length tos - 1) last d (sym is))
 
 -- the Tos before the last one have numbers below its

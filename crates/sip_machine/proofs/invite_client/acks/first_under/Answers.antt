@@ -9,7 +9,8 @@ returns-in_default-first c =
 -- the book keeps the message that was found under the hash
 pub has_to-requires : goal.has_to-requires
 has_to-requires c =
-    first-kept _ c.args.to.now c.span-low.result.0 c.span-low.result.1 c.args.moment _ _ c.requires.row c.span-low.ensures c.requires.owed c.in-Some.hashes.now c.in-Some.ensures c.in-Some-first.message (rw (c.in-Some-first.is, c.hash.ensures) at c.in-Some-first_told.ensures)
+    first-kept _ c.args.to.now c.span-low.result.0 c.span-low.result.1 c.args.moment _ _ c.requires.row c.span-low.ensures c.requires.owed
+    c.in-Some.hashes.now c.in-Some.ensures c.in-Some-first.message (rw (c.in-Some-first.is, c.hash.ensures) at c.in-Some-first_told.ensures)
 
 -- the first debt under the hash of the To is the first with that To
 pub returns : goal.returns

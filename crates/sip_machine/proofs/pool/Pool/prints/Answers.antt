@@ -1,6 +1,6 @@
 use Rattle.sip_machine.proofs.Words.{◌≡◌, ◌<◌, ◌≤◌, ◌+◌, ◌-◌, [], get_or, length, ap, arith, sym, ◌∙◌, with_items_is, CodeOwing}
 use Rattle.sip_machine.proofs.pools.FirstLemmas.{mixed-run, mixed-all}
-use Rattle.sip_machine.proofs.pools.PoolLemmas.{beside-length, state-at}
+use Rattle.sip_machine.proofs.pools.PoolLemmas.{beside-length, phase-at, state-at}
 use Rattle.sip_machine.proofs.pools.PoolEachLemmas.{some-at}
 use Rattle.sip_machine.proofs.pool.Pool.prints.Goals as goal
 
@@ -32,7 +32,7 @@ loop-at-preserved g c =
           let here : at < length xs = omega (arith, order.0, high) in
           sym (ap (λ z. z.phase) (state-at phases rows xs (c.args.from + k) q x c.self.view_is there))
           ∙ some-at (λ z. z.phase ≡ (get_or xs at x).phase) at to (c.args.from + k) xs x (omega (arith, high)) (omega (arith, above)) (omega (arith, below)) (c.run_end-end.ensures.same x)
-          ∙ ap (λ z. z.phase) (state-at phases rows xs at p x c.self.view_is here) ∙ sym c.index.ensures)),
+          ∙ phase-at phases rows xs at p x c.self.view_is here c.index.ensures)),
     )
 
 -- at the end of the loop each print has the hash of its state's phase and debts
@@ -40,10 +40,7 @@ pub returns : goal.returns
 returns g c =
     let phases = c.self.inside.phases.items in
     let rows = c.self.inside.dues in
-    let old = c.in_ok-prints.prints.items in
     let (from, within, mixing) = c.loop-at.invariant in
-    let size = beside-length phases rows in
-    let same = ap length c.self.view_is in
     -- the loop has come to the end of the phases
-    let all : length phases ≤ c.args.from + (c.loop-at.at - c.args.from) = omega (arith, size, same, from) in
-    mixed-all g.P.Hash.hash_input phases c.args.from old rows c.args.self.now c.loop-at.prints.items (c.loop-at.at - c.args.from) c.self.view_is c.self.invariant c.in_ok-prints.ensures mixing all
+    let all : length phases ≤ c.args.from + (c.loop-at.at - c.args.from) = omega (arith, beside-length phases rows, ap length c.self.view_is, from) in
+    mixed-all g.P.Hash.hash_input phases c.args.from c.in_ok-prints.prints.items rows c.args.self.now c.loop-at.prints.items (c.loop-at.at - c.args.from) c.self.view_is c.self.invariant c.in_ok-prints.ensures mixing all

@@ -1,6 +1,6 @@
 -- At each turn of the loop (`c.loop-at.invariant`) part 0 says that the rows are the first ones, 1 that the slots have as many prints, 2 that they are theirs.
-use Rattle.sip_machine.proofs.Words.{◌≡◌, ◌<◌, ◌+◌, ◌-◌, ◌∷◌, [], get_or, length, ◌∙◌, ap, sym, subst, arith, inl, inr, true≢false, cases_lt, get_or_default, get_or_append_left, get_or_push, length_push, AreFirstOnes}
-use Rattle.sip_machine.proofs.pools.FirstLemmas.{first-more, first-again, Any-here}
+use Rattle.sip_machine.proofs.Words.{◌≡◌, ◌<◌, ◌+◌, ◌-◌, ◌∷◌, [], get_or, length, ◌∙◌, ap, sym, subst, arith, inl, inr, cases_lt, get_or_default, get_or_append_left, get_or_push, length_push, AreFirstOnes}
+use Rattle.sip_machine.proofs.pools.FirstLemmas.{first-told, first-again}
 use Rattle.sip_machine.proofs.pool.Pool.first_of_many.Goals as goal
 use Rattle.sip_machine.proofs.pool.Pool.first_of_many.Goals.{then-not-is_repeat+in_ok-push+in_ok-push-2, else-not-is_repeat}
 
@@ -30,8 +30,7 @@ loop-at-preserved g c =
           let more_kept = length_push kept print in
           -- the rows have one more, and the print of each row stands beside it
           rw (w.rows-is, w.slots-is, w.in_ok-push.ensures.ok, w.in_ok-push-2.ensures.items) (
-            first-more xs from at rows at_from first
-                (λ x i d low same. true≢false (sym ((repeats x).1 (Any-here xs rows i d at x low same)) ∙ w.if-not-is_repeat.true)),
+            first-told xs from at rows c.is_repeat.result at_from first repeats w.if-not-is_repeat.true,
             more_kept ∙ ap (λ n. n + 1) long ∙ sym more_rows,
             -- each row has its print, the new one too
             (λ k low. elim (cases_lt k (length rows)) [

@@ -20,7 +20,7 @@ loop-at-preserved g c =
     let p = c.index.result.now in (
       omega (arith, from, order.0),
       omega (arith, high),
-      -- the hash of this phase was mixed into the prints of the run the prints are as many as before (`c.mix.auto.prints`)
+      -- the hash of this phase was mixed into the prints of the run, and the prints are as many as before (`c.mix.auto.prints`)
       rw (with_items_is c.loop-at.prints c.mix.new.prints (c.mix.auto.prints ∙ c.deref_mut.ensures.len)) (
           mixed-run g.P.Hash.hash_input phases c.args.from old c.loop-at.prints.items c.mix.new.prints (at - c.args.from) (to - c.args.from) c.hash_of-hash.result p mixing (rw c.deref_mut.ensures.value at c.mix.ensures) c.hash_of-hash.ensures
           (omega (arith, order.0))

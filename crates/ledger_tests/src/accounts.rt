@@ -444,9 +444,16 @@ fn steps(rt: &impl Abort, played: &mut Played, seed: u64, count: u64, kind: u64)
     Ok(())
 }
 
-/// Twelve seeds, of which every second one has deadlines that rise with the clock.
+/// Twelve seeds, of which every second one has deadlines that rise with the clock. Before them two rows gain a debt, the second after all that it owes,
+/// while the first gains it at an earlier place.
 #[test]
 fn accounts_owe_what_plain_lists_have(rt: HostRuntime) -> Done {
+    let mut played = Played::new(&rt)?;
+    played.push_copy(&rt, 0)?;
+    played.gain_and_expire(&rt, 1, owed(1, 10, true), 0)?;
+    played.gain_and_expire(&rt, 1, owed(2, 10, true), 0)?;
+    played.gain_each(0, owed(1, 10, true))?;
+    played.agree(&rt)?;
     for seed in 0..12 {
         steps(&rt, &mut Played::new(&rt)?, seed, 80, seed % 2)?;
     }

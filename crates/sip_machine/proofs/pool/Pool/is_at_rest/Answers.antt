@@ -7,5 +7,4 @@ pub returns-else-eq : goal.returns-else-eq
 returns-else-eq g c = λ d.
     let is = phase-at _ _ _ c.args.at c.index.result.now d c.self.view_is c.requires c.index.ensures in
     let same = g.met.P.Eq.laws.refl c.args.phase in
-    let differ = c.if-eq.ensures in
     grind (arith, nat_tests)

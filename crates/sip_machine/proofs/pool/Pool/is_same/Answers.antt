@@ -8,5 +8,4 @@ returns-else-eq g c = λ d.
     let is = phase-at _ _ _ c.args.at c.index.result.now d c.self.view_is c.requires.at c.index.ensures in
     let other_is = phase-at _ _ _ c.args.other c.index-2.result.now d c.self.view_is c.requires.other c.index-2.ensures in
     let same = g.met.P.Eq.laws.refl c.index-2.result.now in
-    let differ = c.if-eq.ensures in
     grind (arith, nat_tests)

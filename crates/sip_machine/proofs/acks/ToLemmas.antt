@@ -1,19 +1,17 @@
 -- The To that stands beside a kept message stays what it is, and tells which of the messages has a To.
-use Rattle.sip_machine.proofs.Words.{◌≡◌, ◌≢◌, ◌<◌, ◌≤◌, ◌↔◌, ◌-◌, ◌+◌, ◌&&◌, ℕ, Bool, true, false, cond, IfSome, IsTrue, Option, Some, None, bytes_eq, List, [], ◌∷◌, ◌++◌, All, AllPairs, Contains, is_some, length, map, slice_get, take, items_where_true, bytes_decides, true≢false, refl, sym, ◌∙◌, ap, ap₂, subst, arith, get_or, nat_tests, and-false, cases_lt, eq-eqb, ne_eqb, get_or_picked, get_or_from_slice_get, get_or-map, get_or-take, length-map, length-take-le, take_all, All-contains, All-contains_itself, All-from_retain, IsFiltered, All-get_or, All-push, All-weaker, AllPairs-cons, AllPairs-head, AllPairs-tail, holds, same_reading, solid, Texts, IsBook, Keeps, text_of, only, To, full_hash, IsToOf, IsTo, AreTos, AreUnder, StandUnder, IsChanged, IsUnder, count_between}
+use Rattle.sip_machine.proofs.Words.{◌≡◌, ◌≢◌, ◌<◌, ◌≤◌, ◌↔◌, ◌-◌, ◌+◌, ℕ, Bool, true, false, IfSome, IsTrue, Option, Some, None, bytes_eq, List, [], ◌∷◌, ◌++◌, All, AllPairs, Contains, is_some, length, map, slice_get, take, items_where_true, bytes_decides, true≢false, sym, ◌∙◌, ap, subst, arith, get_or, nat_tests, and-false, cases_lt, ne_eqb, get_or_picked, get_or_from_slice_get, get_or-map, get_or-take, length-map, length-take-le, take_all, All-contains, All-contains_itself, All-from_retain, IsFiltered, All-get_or, All-push, All-weaker, AllPairs-cons, AllPairs-head, AllPairs-tail, holds, same_reading, solid, Texts, IsBook, Keeps, text_of, only, To, full_hash, IsToOf, IsTo, AreTos, AreUnder, StandUnder, IsChanged, IsUnder, count_between}
 use Rattle.sip_machine.proofs.texts.BesideLemmas.{among-all, count_between-is, many}
 use Rattle.sip_machine.proofs.texts.TextLaws.{Keeps-grow, text_of-grow}
 use Rattle.sip_machine.proofs.texts.RetainLemmas.{only-Keeps, text_of-only}
 
--- another text is the To of these bytes exactly if it is equal to their To
-pub IsToOf-same : (bytes to text : List ℕ) → IsToOf bytes text → IsTrue (bytes_eq text to) ↔ IsToOf bytes to
-IsToOf-same bytes to text is = (
-  λ same. subst (IsToOf bytes) ((bytes_decides text to).0 same) is,
-  λ its. (bytes_decides text to).1 (is.is ∙ ap (λ r. solid r.parts.to) (same_reading bytes is.message its.message is.reads its.reads) ∙ sym its.is),
-)
-
 -- bytes have one To
 pub IsToOf-one : (bytes to text : List ℕ) → IsToOf bytes text → IsToOf bytes to → text ≡ to
-IsToOf-one bytes to text is its = (bytes_decides text to).0 ((IsToOf-same bytes to text is).1 its)
+IsToOf-one bytes to text is its = is.is ∙ ap (λ r. solid r.parts.to) (same_reading bytes is.message its.message is.reads its.reads) ∙ sym its.is
+
+-- another text is the To of these bytes exactly if it is equal to their To
+pub IsToOf-same : (bytes to text : List ℕ) → IsToOf bytes text → IsTrue (bytes_eq text to) ↔ IsToOf bytes to
+IsToOf-same bytes to text is =
+    (λ same. subst (IsToOf bytes) ((bytes_decides text to).0 same) is, λ its. (bytes_decides text to).1 (IsToOf-one bytes to text is its))
 
 -- where the To of a kept message is put after the others, all are Tos of kept messages
 pub AreTos-push : (texts : Texts) (tos new : List To) (to : To) → IsTo texts to → AreTos texts tos → new ≡ tos ++ to ∷ [] → AreTos texts new
@@ -58,9 +56,8 @@ nobody = record { number = 0; text = [] }
 -- each To before the last one has a lesser number than it
 before_last : (tos : List To) (last : To) → AllPairs below tos → Some last ≡ slice_get tos (length tos - 1) → (k : ℕ) (d : To) → k < length tos - 1 → (get_or tos k d).number < last.number
 before_last tos last up is k d low =
-    let n = length tos - 1 in
-    let lt = up k n d low (omega (arith, low)) in
-    subst (λ (to : To). (get_or tos k d).number < to.number) (get_or_from_slice_get tos n last d (sym is)) lt
+    let lt = up k (length tos - 1) d low (omega (arith, low)) in
+    subst (λ (to : To). (get_or tos k d).number < to.number) (get_or_from_slice_get tos (length tos - 1) last d (sym is)) lt
 
 -- where the last To of the list has a number below this one, all have
 pub below_last : (tos : List To) (number : ℕ) (last : To) → AllPairs below tos → Some last ≡ slice_get tos (length tos - 1) → last.number < number → All (λ to. to.number < number) tos
@@ -111,9 +108,7 @@ AllPairs-take R n xs up = grind (arith, nat_tests, cases_lt, take_all, length-ta
 pub put-here : (hash number : ℕ) (old new : Option (List (ℕ × ℕ))) → IsChanged hash number true old new → IsUnder new hash number
 put-here hash number old None changed = tt
 put-here hash number None (Some new) changed = absurd changed
--- by the change, the pair that was put is there: both tests of equality pass
-put-here hash number (Some old) (Some new) changed =
-    changed hash number ∙ ap₂ (λ a b. cond (a && b) true (holds old hash number)) (eq-eqb hash hash refl) (eq-eqb number number refl)
+put-here hash number (Some old) (Some new) changed = grind (arith, nat_tests, changed hash number)
 
 -- where a number is put under a hash, what stood under a hash stands there
 pub put-keeps : (hash number : ℕ) (old new : Option (List (ℕ × ℕ))) → IsChanged hash number true old new → (h n : ℕ) → IsUnder old h n → IsUnder new h n

@@ -19,7 +19,7 @@ pub use Rattle.std.specs.Cmp.Lexicographic.{bytes_decides}
 pub use Rattle.std.specs.List.{HoldsAt, items_where_true, list_any}
 pub use Rattle.std.specs.List.Retain.{IsFiltered}
 pub use Rattle.std.specs.Option.{option_map}
-pub use Rattle.std.specs.Prelude.{All, AllPairs, Bool, Contains, IfOk, IfSome, IsTrue, List, None, Option, Some, [], bytes_eq, cond, drop, false, filter, get_or, is_some, length, map, min, not, option_to_list, replicate, set, slice_get, take, true, ℕ, ◌&&◌, ◌++◌, ◌+◌, ◌-◌, ◌<◌, ◌==◌, ◌||◌, ◌↔◌, ◌∷◌, ◌≡◌, ◌≢◌, ◌≤◌, ◌⊎◌}
+pub use Rattle.std.specs.Prelude.{All, AllPairs, Bool, Contains, IfSome, IsTrue, List, None, Option, Some, [], bytes_eq, cond, drop, false, filter, get_or, is_some, length, map, min, not, option_to_list, replicate, set, slice_get, take, true, ℕ, ◌&&◌, ◌++◌, ◌+◌, ◌-◌, ◌<◌, ◌==◌, ◌||◌, ◌↔◌, ◌∷◌, ◌≡◌, ◌≢◌, ◌≤◌, ◌⊎◌}
 pub use Rattle.std.specs.Vec.{vec_len}
 pub use Rattle.std.specs.declared.cmp.Ordering.TheVariants.{Equal}
 pub use Rattle.sip_key.proofs.AckOfLemmas.{ack-of_says}
@@ -29,7 +29,6 @@ pub use Rattle.sip_ledger.specs.Accounts.{paid_rows}
 pub use Rattle.sip_ledger.specs.Debts.{IsFirstPaid, PaysSome, counts_at, is_payable, is_timely, paid_by}
 pub use Rattle.sip_ledger.specs.Indexes.{holds}
 pub use Rattle.sip_ledger.specs.Lists.{from_to}
-pub use Rattle.sip_ledger.specs.Runs.{AreRuns}
 pub use Rattle.sip_ledger.specs.declared.debt.Debt.{Debt}
 pub use Rattle.sip_machine.specs.FigureRules.{After}
 pub use Rattle.sip_machine.specs.Owes.{owed_in, owes_names}

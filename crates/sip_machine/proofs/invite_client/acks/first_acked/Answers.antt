@@ -1,4 +1,4 @@
-use Rattle.sip_machine.proofs.Words.{◌∙◌, ap, get_or, subst, sym, IfOk, IfOk-weaker, solid, owed_in, text_of, HasTo, PaysDebt, FindsFirst, says-no_fault, ◌≡◌, ◌↔◌, ℕ, Bool, false, IsTrue, List, true≢false, Reading, Reads, Said, said_of, says-reads, AckOf, IsAckOf, SameSolid, ack-of_says, IsToOf}
+use Rattle.sip_machine.proofs.Words.{◌∙◌, ap, get_or, sym, IfOk-weaker, solid, owed_in, text_of, HasTo, PaysDebt, says-no_fault, ◌≡◌, ◌↔◌, ℕ, Bool, false, IsTrue, List, true≢false, Reading, Reads, Said, said_of, says-reads, AckOf, IsAckOf, SameSolid, ack-of_says, IsToOf}
 use Rattle.sip_machine.proofs.acks.HolderLemmas.{FindsFirst-same}
 use Rattle.sip_machine.proofs.invite_client.acks.first_acked.Goals as goal
 
@@ -65,5 +65,4 @@ returns-clause-finds c =
     let by_to = AckOf-by_to ack invite response c.in-Some.ack c.in-Some-2.invite c.is_ack_for.result
     (rw (c.in-Some.is, c.number.ensures) at c.in_ok-ack.ensures) (rw c.in-Some-2.is at c.in_ok-invite.ensures) c.is_ack_for.ensures c.if-not-is_ack_for.false c.of-to.result to in
     (λ has. (by_to.0 has.0, has.1), λ pays. (by_to.1 pays.0, pays.1))) finds)
-    (subst (λ rows. IfOk c.first_with_to.result (FindsFirst (HasTo texts c.of-to.result t) t (owed_in rows c.args.row))) c.in-Some-accounts.ensures.some
-    (rw c.moment.ensures at c.first_with_to.ensures))
+    (rw (c.in-Some-accounts.ensures.some, c.moment.ensures) at c.first_with_to.ensures)

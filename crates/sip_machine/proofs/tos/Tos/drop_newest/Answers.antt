@@ -1,5 +1,5 @@
 -- Of the invariant of Tos (`c.self.invariant`) part 0 says that the numbers of the messages rise, and 1 that each stands under its hash, if hashes are kept.
-use Rattle.sip_machine.proofs.Words.{◌≡◌, ◌-◌, All, Contains, arith, subst, sym, take, vec_len, All-contains_itself, All-take, full_hash, IsUnder}
+use Rattle.sip_machine.proofs.Words.{◌≡◌, ◌-◌, Contains, arith, take, vec_len, All-contains_itself, All-take, full_hash, IsUnder}
 use Rattle.sip_machine.proofs.acks.ToLemmas.{AllPairs-take, below, front_below, under-taken}
 use Rattle.sip_machine.proofs.tos.Tos.drop_newest.Goals as goal
 
@@ -21,5 +21,4 @@ invariant_of-self c =
 -- the Tos that are left were there before
 pub returns-in-Some : goal.returns-in-Some
 returns-in-Some c =
-    let tos = c.self.inside.list.items in
-    rw (← c.self.view_is) (subst (All (Contains tos)) (sym c.pop.ensures.rest) (All-take (Contains tos) (vec_len c.self.inside.list - 1) tos (All-contains_itself tos)))
+    rw (← c.self.view_is, c.pop.ensures.rest) (All-take (Contains c.self.inside.list.items) (vec_len c.self.inside.list - 1) c.self.inside.list.items (All-contains_itself c.self.inside.list.items))

@@ -1,6 +1,4 @@
-use Rattle.std.proofs.Common.{subst, sym}
-use Rattle.std.specs.Prelude.{All}
-use Rattle.sip_machine.specs.Texts.{Keeps}
+use Rattle.sip_machine.proofs.Words.{subst, sym, All, Keeps}
 use Rattle.sip_machine.proofs.debts.LookLemmas.{first-named}
 use Rattle.sip_machine.proofs.debts.NamesLemmas.{all-named}
 use Rattle.sip_machine.proofs.invite_client.acks.first_named.Goals as goal

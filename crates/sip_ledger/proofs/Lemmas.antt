@@ -3,7 +3,7 @@ pub use Rattle.sip_ledger.proofs.Words.{Account, All, ap, AreAppended, AreKept, 
 unfoldable pub use Rattle.sip_ledger.proofs.Words.{account_debts, accounts_debts, debts_print, entries_of, holds, is_struck, owes_at, worth_of}
 pub use Rattle.sip_ledger.proofs.account.AccountLemmas.{debts_length, empty-account, empty-debts, owed-within}
 pub use Rattle.sip_ledger.proofs.account.FindLemmas.{first-account, first-all, first-payable, first-stays, IsFirstTo, newest-first, IsSoughtTo, none-account, one-found, sought-at, sought-late, sought-struck, owed-next}
-pub use Rattle.sip_ledger.proofs.account.ToldLemmas.{AreAt, at-apart, at-more, at-start, end-other, end-same, IsLeastTo, IsToldTo, least-first, least-first_due, least-found, least-last, least-passed, told-more}
+pub use Rattle.sip_ledger.proofs.account.ToldLemmas.{AreAt, at-apart, at-more, at-start, end-other, end-same, IsLeastTo, IsToldTo, least-first, least-first_due, least-found, least-last, least-passed, told-all, told-first, told-more}
 pub use Rattle.sip_ledger.proofs.account.WithoutLemmas.{before-start, first-gain, more-gain, new-gain, without-first, without-last, without-middle}
 pub use Rattle.sip_ledger.proofs.debts.OwedLemmas.{widened-run}
 pub use Rattle.sip_ledger.proofs.gains.LeftLemmas.{entries_long, gains-dropped, gains-let_go, gains-more, gains-same, left-kept, none-gained, owed-left, rising-push}
@@ -12,5 +12,5 @@ pub use Rattle.sip_ledger.proofs.lists.FrontLemmas.{IsKeptTo, kept-all, kept-mor
 pub use Rattle.sip_ledger.proofs.lists.IndexLemmas.{at-pair, count_passed, none-held, range-first, range-none, span-held}
 unfoldable pub use Rattle.sip_ledger.proofs.lists.IndexLemmas.{count_from}
 pub use Rattle.sip_ledger.proofs.rows.PaidLemmas.{account-there, ArePaidTo, gained-grown, gained-more, gained-over, HaveGained, IsExpiring, none-past, paid-grown, paid-next}
-pub use Rattle.sip_ledger.proofs.rows.SeenLemmas.{account-at, AreNamedTo, changed-by, changed-to, on-error, over-to, owes-nothing, pushed-to, eased-account, softened-account, spanned, unchanged}
+pub use Rattle.sip_ledger.proofs.rows.SeenLemmas.{account-at, AreNamedTo, changed-by, changed-to, on-error, over-to, owes-nothing, pushed-to, row-few, eased-account, softened-account, spanned, unchanged}
 pub use Rattle.sip_ledger.proofs.strikes.MovedLemmas.{alone-more, alone-none, alone-on, appended-fewer, appended-more, cleared-dropped, cleared-more, kept-less, longer-too, more-too, moved-more, moved-none, none-struck, strikes-none, written-more, written-none}

@@ -17,7 +17,7 @@ mod seek;
 mod strikes;
 
 use crate::accounts::account::{
-    Account, EMPTY, debt_for, debts, earliest_must, expired, find, find_under, gained_and_expired,
+    Account, EMPTY, earliest_must, expired, find, find_under, first_debts, gained_and_expired,
     paid_and_expired, place_for, same,
 };
 use crate::accounts::gains::Gains;
@@ -309,20 +309,21 @@ impl Accounts {
         requires { row < length self.now }
         ensures { IfOk result (λ debts. debts.items ≡ owed_in self.now row) }
     {
-        debts(alloc, &self.gains, &self.strikes, self.rows[row])
+        let most = usize::MAX;
+        first_debts(alloc, &self.gains, &self.strikes, self.rows[row], most)
     }
 
-    /// What the row owes first, if it owes something.
-    #[tactic(auto, using(crate::proofs::rows::SeenLemmas::first_of_rows))]
-    pub fn first_debt(&self, row: usize) -> Option<Debt>
+    /// What the row owes first: this many debts, or all where it owes fewer.
+    pub fn first_debts(
+        &self,
+        alloc: Global,
+        row: usize,
+        most: usize,
+    ) -> Result<Vec<Debt>, AllocError>
         requires { row < length self.now }
-        ensures { result ≡ slice_get (owed_in self.now row) 0 }
+        ensures { IfOk result (λ debts. debts.items ≡ take most (owed_in self.now row)) }
     {
-        let account = self.rows[row];
-        if account.start == account.end {
-            return None;
-        }
-        Some(debt_for(&self.gains, account, account.start))
+        first_debts(alloc, &self.gains, &self.strikes, self.rows[row], most)
     }
 
     /// Gives back what no row needs. It is to be called after each step: where many rows pay, what they paid is then looked at once.

@@ -1,11 +1,10 @@
 -- Accounts as contracts see them: a list of what each row owes, and the messages that rows owe.
-use Rattle.sip_ledger.proofs.Words.{◌≡◌, ℕ, ◌+◌, ◌<◌, ◌≤◌, ◌==◌, true, false, List, [], ◌∷◌, ◌++◌, length, get_or, map, refl, sym, ap, ◌∙◌, arith, nat_tests, All, Contains, list_any, and-true, cases_eq, cases_lt, eqb-true, false_from_ne_true, le-leb, true≢false, append_assoc, get_or_append_left, get_or_default, get_or_push, length_push, All-get_or, All-map, Contains-append_left, Contains-push, Contains-push_cases, list_any_at, list_any_none, All-cons, All-nil, Debt, Account, Gains, Strike, AppendsOwed, owes_message, some_owes, is_payable, Rise, account_debts, accounts_debts, entries_of, entry_at, must_at, owes_at, holds, common_steps, ◌≢◌, take, set, IsTrue, Option, Some, None, IfSome, IfNone, Result, Ok, Err, IsErr, OnErr, ◌↔◌, is_err, is_some, eq-eqb, drop_min, All-weaker, sum_by-cons, debts_print, owed_in, softened_account, softened_debt, debt_deadlines, earliest, IsNextGain, AreAccounts, AreGains, IsAccount, IsFirstPayable, KeepsAccounts, pays_at, map-append, map-set, All-push, All-set}
-use Rattle.sip_ledger.proofs.debts.ListedLemmas.{listed-each, listed-softened}
+use Rattle.sip_ledger.proofs.Words.{◌≡◌, ℕ, ◌+◌, ◌<◌, ◌≤◌, ◌==◌, true, false, List, [], ◌∷◌, ◌++◌, length, get_or, map, refl, sym, ap, ◌∙◌, arith, nat_tests, All, Contains, list_any, and-true, cases_eq, cases_lt, eqb-true, false_from_ne_true, le-leb, true≢false, append_assoc, get_or_append_left, get_or_default, get_or_push, length_push, All-get_or, All-map, Contains-append_left, Contains-push, Contains-push_cases, list_any_at, list_any_none, All-cons, All-nil, Debt, Account, Gains, Strike, AppendsOwed, owes_message, some_owes, is_payable, Rise, account_debts, accounts_debts, entries_of, entry_at, must_at, owes_at, holds, common_steps, ◌≢◌, take, set, IsTrue, Option, Some, None, IfSome, IfNone, Result, Ok, Err, IsErr, OnErr, ◌↔◌, is_err, is_some, eq-eqb, drop_min, All-weaker, sum_by-cons, debts_print, owed_in, softened_account, softened_debt, debt_deadlines, earliest, IsNextGain, AreAccounts, AreGains, IsAccount, IsFirstPayable, KeepsAccounts, pays_at, map-append, map-set, All-push, All-set, ◌^◌}
+use Rattle.sip_ledger.proofs.debts.ListedLemmas.{listed-each, listed-few, listed-softened}
 use Rattle.sip_ledger.proofs.account.AccountLemmas.{kept-start, debts_length, row-debts, empty-debts, kept-all, must-below, owed-within, row-account, truncated, without-first_rows}
 use Rattle.sip_ledger.proofs.gains.LeftLemmas.{entries_long, held_left, owed-left}
 use Rattle.sip_ledger.proofs.debts.OwedLemmas.{listed-any, some-debt}
 use Rattle.sip_ledger.proofs.account.FindLemmas.{unpaid-account}
-use Rattle.sip_ledger.proofs.account.ToldLemmas.{told-start}
 
 -- what holds is said of an answer that is an error
 pub on-error : {T E P : Type 0} (r : Result T E) → IsErr r → P → OnErr r P
@@ -30,6 +29,15 @@ module _ {gains : Gains} {strikes : List Strike} {rows : List Account} {seen : L
       let within = row-inside row are view inside in
       let debts = row-debts gains strikes rows row a within is in
       grind (arith, row-account, debts)
+
+  -- a row owes no more debts than were gained
+  pub row-few : (row : ℕ) → AreAccounts gains strikes rows → accounts_debts gains strikes rows ≡ seen → row < length seen → length (owed_in seen row) < 2 ^ 64
+  unfolding account_debts
+  row-few row are view inside =
+      -- `none` stands for no account
+      let none : Account = record { start = 0; end = 0; soft = 0; first = 0; last = 0; print = 0 } in
+      let at = account-at row (get_or rows row none) are view inside (get_or_default rows row none (get_or rows row none) (row-inside row are view inside)) in
+      grind (arith, at, listed-few, entries_long)
 
   -- the account of a row, alone, is seen as what the row owes
   pub alone : (row : ℕ) (a : Account) → AreAccounts gains strikes rows → accounts_debts gains strikes rows ≡ seen → row < length seen → a ≡ get_or rows row a →
@@ -119,9 +127,6 @@ can-pay gains strikes a message t None is some none = grind (arith, nat_tests, l
 
 -- lemmas for the prover under one name: what contracts see of rows, by their accounts
 pub ruleset of_rows = (debts_length, account-at, alone, can-pay, truncated, on-err, on-error, over-to, unchanged, without-first_rows, drop_min)
-
--- lemmas for the prover under one name: what a row owes first
-pub ruleset first_of_rows = (account-at, debts_length, empty-debts, entries_long, kept-start, told-start)
 
 -- a send at moment 0 can pay each debt of its message
 pub payable-owes : (message : ℕ) (debts : List Debt) → list_any (is_payable message 0) debts ≡ owes_message message debts

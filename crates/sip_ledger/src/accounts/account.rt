@@ -576,7 +576,7 @@ fn earlier(moment: u64, other: Option<u64>) -> u64
 }
 
 /// What the account owes at a place, as far as it owes something there.
-pub(crate) fn debt_for(gains: &Gains, account: Account, place: usize) -> Debt
+fn debt_for(gains: &Gains, account: Account, place: usize) -> Debt
     requires gained { AreGains gains.now }
     requires kept { IsUndropped gains.now place }
     ensures { result ≡ debt_of (entry_at (entries_of gains.now) place) (must_at gains.now account place) }
@@ -655,21 +655,25 @@ pub(crate) fn same(gains: &Gains, strikes: &[Strike], one: Account, other: Accou
     at == one.end && beside == other.end
 }
 
-/// What the account owes.
+/// What the account owes first: this many debts, or all where it owes fewer.
 #[tactic(auto, using(crate::proofs::account::ToldLemmas::told_by_place))]
-pub(crate) fn debts(
+pub(crate) fn first_debts(
     alloc: Global,
     gains: &Gains,
     strikes: &[Strike],
     account: Account,
+    most: usize,
 ) -> Result<Vec<Debt>, AllocError>
     requires gained { AreGains gains.now }
     requires account { IsAccount gains.now strikes.now account }
-    ensures { IfOk result (λ debts. debts.items ≡ account_debts gains.now strikes.now account) }
+    ensures { IfOk result (λ debts. debts.items ≡ take most (account_debts gains.now strikes.now account)) }
 {
     let mut debts = Vec::new(alloc);
     let mut place = account.start;
     while place < account.end {
+        if debts.len() == most {
+            return Ok(debts);
+        }
         debts.push(debt_for(gains, account, place))?;
         place = next(gains, strikes, account, place + 1);
     }

@@ -186,11 +186,14 @@ impl Played {
         Ok(())
     }
 
-    /// The debts of the row are those of this list, and what it owes first stands first there.
+    /// The debts of the row are those of this list, also where fewer or more of the first ones are asked for than it owes.
     fn owes_debts(&self, rt: &impl Abort, row: usize, list: &[Debt]) -> Done {
         holds(rt, row < self.accounts.len(), "a row of the accounts");
-        let first = self.accounts.first_debt(row);
-        holds_of(rt, first == list.first().copied(), "first debt", row);
+        for most in [list.len() / 2, list.len(), usize::MAX] {
+            let debts = self.accounts.first_debts(self.alloc, row, most)?;
+            let wants = list.get(..most).unwrap_or(list);
+            holds_of(rt, debts.as_slice() == wants, "first debts", row);
+        }
         let runs = self.accounts.runs(self.alloc, row)?;
         let mut debts = Vec::new(self.alloc);
         for run in &runs {

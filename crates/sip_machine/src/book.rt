@@ -37,8 +37,9 @@ pub struct Book {
     tos: Tos,
     /// The buffers of messages that were forgotten, for those that come.
     spare: Vec<Vec<u8>>,
-    /// How many steps searches for Tos took in vain since messages were forgotten last.
+    /// How many steps searches for Tos took in vain since messages were forgotten last, and after how many some are to be forgotten again.
     steps: Cell<usize>,
+    patience: usize,
     /// Whether a search looked at many messages one by one, so that the Tos of all are wanted beside them.
     wanted: Cell<bool>,
 }
@@ -108,6 +109,7 @@ impl Book {
             tos: Tos::new(alloc),
             spare: Vec::new(alloc),
             steps: Cell::new(0),
+            patience: 0,
             wanted: Cell::new(false),
         }
     }
@@ -286,7 +288,7 @@ impl Book {
     /// Whether it costs less to forget messages now than to search for Tos among so many: searches took more steps in vain than messages are
     /// kept. The contract says nothing of the answer: it tells when to forget, and never what.
     pub fn is_slow(&self) -> bool {
-        self.steps.get() > self.kept.len()
+        self.steps.get() > self.patience.max(self.kept.len())
     }
 
     /// How many messages are kept.
@@ -303,6 +305,8 @@ impl Book {
         requires kept { All (Keeps self.old) numbers.now }
         ensures { self.new ≡ only numbers.now self.old }
     {
+        let gone = self.kept.len().saturating_sub(numbers.len());
+        self.patience = patience_after(self.patience.max(self.kept.len()), self.steps.get(), gone);
         let is_loose = self.loose.is_some();
         let kept = placed(&self.kept, is_loose);
         move_all(&mut self.order, kept, placed(numbers, is_loose));
@@ -311,6 +315,15 @@ impl Book {
         self.tos.retain(numbers);
         self.steps.set(0);
     }
+}
+
+/// After how many steps in vain messages are to be forgotten again, where after these so many went. Each that is gone was passed by each search since it was
+/// not needed any more. Where fewer went than such searches need, the steps passed messages that stay, and twice as many are waited for.
+fn patience_after(patience: usize, steps: usize, gone: usize) -> usize {
+    if gone.saturating_mul(gone) < steps {
+        return patience.saturating_mul(2);
+    }
+    0
 }
 
 /// Whether the To of the message is to stand beside it: where it refuses an INVITE, since a response that does is owed an ACK; and where

@@ -280,7 +280,7 @@ impl Book {
 
     /// Counts messages that a search for a To looked at one by one. Where they are many, and the Tos of all do not stand beside them, these are wanted.
     pub(crate) fn count_messages(&self, messages: usize) {
-        if messages > MANY && !self.tos.takes_all() {
+        if messages >= MANY && !self.tos.takes_all() {
             self.wanted.set(true);
         }
     }

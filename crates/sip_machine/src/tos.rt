@@ -24,7 +24,7 @@ pub(crate) struct Tos {
     hashes: Option<Index>,
 }
 
-/// Where a search for a To looks at more messages than these, one by one, the Tos of all messages are to stand here: then no message without one lies
+/// Where a search for a To looks at this many messages, one by one, the Tos of all messages are to stand here: then no message without one lies
 /// between these, and the response of an ACK is found without a look at each message that is owed. Where fewer are left, no hashes are kept.
 pub(crate) const MANY: usize = 255;
 

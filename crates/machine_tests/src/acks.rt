@@ -429,7 +429,7 @@ fn a_refusal_that_came_again_is_paid_after_the_others(rt: HostRuntime) -> Result
     let mut entries = Vec::new(rt.alloc());
     push_one_again(&mut entries)?;
     let states = states_of_pairs(rt.alloc(), &entries)?;
-    holds(&rt, are_all_but_last(owed(&states)), "all but the last");
+    holds(&rt, are_first(owed(&states), MANY - 1), "all but the last");
     Ok(())
 }
 
@@ -448,7 +448,7 @@ fn push_one_again(entries: &mut Vec<Entry>) -> Result<(), AllocError> {
 /// The number of the last of the refusals. Those of the others are at most 518.
 const LAST: u64 = 521;
 
-/// The INVITE, the ACK for the last of many refusals, and the refusals before it.
+/// The INVITE, the ACKs for the last of many refusals and for the one before it, and the refusals before the last.
 fn many_before_last(alloc: Global) -> Result<Vec<Numbered>, AllocError> {
     let mut messages = Vec::new(alloc);
     push_many_before_last(&mut messages)?;
@@ -459,53 +459,80 @@ fn many_before_last(alloc: Global) -> Result<Vec<Numbered>, AllocError> {
 fn push_many_before_last(messages: &mut Vec<Numbered>) -> Result<(), AllocError> {
     messages.push((1, Start::Request("INVITE"), None))?;
     messages.push((2, Start::Request("ACK"), Some(255)))?;
+    messages.push((3, Start::Request("ACK"), Some(254)))?;
     for tag in 0..MANY - 1 {
         messages.push((refusal(tag), Start::Response(486), Some(tag as u8)))?;
     }
     Ok(())
 }
 
-/// The INVITE is sent, all refusals are received, the last one too if it is to be, and the last one is acknowledged.
-fn push_to_last(entries: &mut Vec<Entry>, last: bool) -> Result<(), AllocError> {
+/// The INVITE is sent, and all refusals are received but the last.
+fn push_before_last(entries: &mut Vec<Entry>) -> Result<(), AllocError> {
     entries.push((0, Action::Sent, 1))?;
     for tag in 0..MANY - 1 {
         entries.push((100, Action::Received, refusal(tag)))?;
     }
-    if last {
-        entries.push((100, Action::Received, LAST))?;
-    }
-    entries.push((110, Action::Sent, 2))?;
     Ok(())
 }
 
-/// Whether the debts are those of all refusals but the last, once each.
-fn are_all_but_last(runs: &[Run]) -> bool {
+/// Whether the debts are those of the first refusals, this many, once each.
+fn are_first(runs: &[Run], count: u64) -> bool {
     let owed = runs.iter().map(|run| (run.debt.message, run.count));
-    owed.eq((0..MANY - 1).map(|tag| (refusal(tag), 1)))
+    owed.eq((0..count).map(|tag| (refusal(tag), 1)))
+}
+
+/// No To stands beside a message, until an ACK was looked for among many refusals: then those of all do. The ACK for the newest refusal finds it.
+#[test]
+fn an_ack_finds_the_newest_of_many(rt: HostRuntime) -> Result<(), Fail> {
+    let mut book = book_with_tos(rt.alloc(), &many_before_last(rt.alloc())?, 0)?;
+    let mut entries = Vec::new(rt.alloc());
+    push_before_last(&mut entries)?;
+    entries.push((110, Action::Sent, 3))?;
+    let states = states_beside(rt.alloc(), &mut book, &entries)?;
+    holds(
+        &rt,
+        are_first(owed(&states), MANY - 2),
+        "all but the newest",
+    );
+    Ok(())
+}
+
+/// A refusal comes when the Tos of all messages stand beside them. Its own stands there too, and its ACK finds it.
+#[test]
+fn an_ack_finds_a_response_that_came_after_many(rt: HostRuntime) -> Result<(), Fail> {
+    let states = states_with_last(rt.alloc(), true)?;
+    holds(&rt, are_first(owed(&states), MANY - 1), "all but the last");
+    Ok(())
 }
 
 /// The Tos of all messages stand in the book but that of the last refusal, as where memory for it was refused. Its ACK finds it.
 #[test]
 fn an_ack_finds_a_response_without_its_to_among_many(rt: HostRuntime) -> Result<(), Fail> {
-    let states = states_without_to(rt.alloc())?;
-    holds(&rt, are_all_but_last(owed(&states)), "all but the last");
+    let states = states_with_last(rt.alloc(), false)?;
+    holds(&rt, are_first(owed(&states), MANY - 1), "all but the last");
     Ok(())
 }
 
 /// The states of the client after all refusals and the ACK for the last, over a book that keeps these, and beside each but the last its To: these stand there
-/// since an ACK was looked for among the others.
-fn states_without_to(alloc: Global) -> Result<Vec<State<InviteClientPhase>>, Fail> {
+/// since an ACK was looked for among the others. That of the last stands there too if it is to.
+fn states_with_last(alloc: Global, beside: bool) -> Result<Vec<State<InviteClientPhase>>, Fail> {
     let mut book = Book::new(alloc);
     let last = keep_with_tos(alloc, &mut book, &many_before_last(alloc)?, LAST)?;
     let mut entries = Vec::new(alloc);
-    push_to_last(&mut entries, false)?;
+    push_before_last(&mut entries)?;
+    entries.push((110, Action::Sent, 2))?;
     states_after(alloc, &book, &entries)?;
     keep_to(alloc, &mut book, 1)?;
     if LAST <= last {
         return Err("out of order".into());
     }
     keep_text(alloc, &mut book, LAST, Start::Response(486), Some(255))?;
+    if beside {
+        keep_to(alloc, &mut book, LAST)?;
+    }
     entries.clear();
-    push_to_last(&mut entries, true)?;
+    push_before_last(&mut entries)?;
+    entries.push((100, Action::Received, LAST))?;
+    entries.push((110, Action::Sent, 2))?;
     states_after(alloc, &book, &entries)
 }

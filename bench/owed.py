@@ -203,6 +203,15 @@ def acks_between(count, _):
         yield "S", 0, text("ACK sip:b SIP/2.0", "ACK", 1, "a")
 
 
+def acks_in_another_order(count, _):
+    """Refusals that differ and have one To, after one with another To. They come again, the newest first, and then as many ACKs."""
+    yield "S", 0, text(INVITE)
+    yield "R", 0, reply(486, "a")
+    for number in (*range(count), *reversed(range(count))):
+        yield "R", 0, reply(f"486 {number}", "t")
+    yield from 2 * count * [("S", 0, text("ACK sip:b SIP/2.0", "ACK", 1, "t"))]
+
+
 def acks_of_long_tos(count, _):
     """Refusals whose Tos are long and differ in their ends alone; their ACKs, newest first."""
     yield from refused(count, lambda it: 300 * "t" + str(it), reversed)
@@ -296,6 +305,7 @@ LOGS = [
     (acks_of_two_in_turn, 2000, (1,)),
     (acks_of_other_calls, 4000, (1,)),
     (acks_between, 2000, (1,)),
+    (acks_in_another_order, 2000, (1,)),
     (acks_of_long_tos, 4000, (1,)),
     # Debts that are equal, paid by all states at once, or past.
     (equal_debts, 25000, (1, 1024)),

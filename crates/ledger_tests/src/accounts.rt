@@ -189,6 +189,8 @@ impl Played {
     /// The debts of the row are those of this list, also where fewer or more of the first ones are asked for than it owes.
     fn owes_debts(&self, rt: &impl Abort, row: usize, list: &[Debt]) -> Done {
         holds(rt, row < self.accounts.len(), "a row of the accounts");
+        let first = self.accounts.first_debt(row);
+        holds_of(rt, first == list.first().copied(), "first debt", row);
         for most in [list.len() / 2, list.len(), usize::MAX] {
             let debts = self.accounts.first_debts(self.alloc, row, most)?;
             let wants = list.get(..most).unwrap_or(list);

@@ -17,8 +17,8 @@ mod seek;
 mod strikes;
 
 use crate::accounts::account::{
-    Account, EMPTY, earliest_must, expired, find, find_under, first_debts, gained_and_expired,
-    paid_and_expired, place_for, same,
+    Account, EMPTY, debt_for, earliest_must, expired, find, find_under, first_debts,
+    gained_and_expired, paid_and_expired, place_for, same,
 };
 use crate::accounts::gains::Gains;
 use crate::accounts::left::{drop_front, let_go};
@@ -311,6 +311,19 @@ impl Accounts {
     {
         let most = usize::MAX;
         first_debts(alloc, &self.gains, &self.strikes, self.rows[row], most)
+    }
+
+    /// What the row owes first, if it owes something.
+    #[tactic(auto, using(crate::proofs::rows::SeenLemmas::first_of_rows))]
+    pub fn first_debt(&self, row: usize) -> Option<Debt>
+        requires { row < length self.now }
+        ensures { result ≡ slice_get (owed_in self.now row) 0 }
+    {
+        let account = self.rows[row];
+        if account.start == account.end {
+            return None;
+        }
+        Some(debt_for(&self.gains, account, account.start))
     }
 
     /// What the row owes first: this many debts, or all where it owes fewer.

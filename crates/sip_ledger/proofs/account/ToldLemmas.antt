@@ -1,5 +1,5 @@
 -- What an account owes, place by place: its debts, whether another account owes the same, and the least deadline of what it must send.
-use Rattle.sip_ledger.proofs.Words.{blank, All, All-head, All-tail, fold, IfSome, list_any, MatchOption, max, min, ◌≡◌, ◌≢◌, ℕ, ◌+◌, ◌<◌, ◌≤◌, ◌==◌, ◌&&◌, ◌||◌, Bool, true, false, List, [], ◌∷◌, ◌++◌, length, refl, sym, ap, ◌∙◌, arith, append-nil, nat_tests, IsTrue, Option, Some, None, ◌↔◌, option_to_list, cases_eq, cases_lt, eq-eqb, eqb-true, false_from_ne_true, true≢false, append_cancel_left, length-append, length-take-le, take-append-le, take, take_all, Debt, Account, Gains, Strike, debt_deadlines, earliest, debt_of, AreGains, IsAccount, IsAfter, SharesNext, account_debts, entries_of, entry_at, is_left, is_struck, must_at, owes_at, strikes_of, holds}
+use Rattle.sip_ledger.proofs.Words.{blank, All, All-head, All-tail, fold, IfSome, list_any, MatchOption, max, min, ◌≡◌, ◌≢◌, ℕ, ◌+◌, ◌<◌, ◌≤◌, ◌==◌, ◌&&◌, ◌||◌, Bool, true, false, List, [], ◌∷◌, ◌++◌, length, refl, sym, ap, ◌∙◌, arith, append-nil, nat_tests, IsTrue, Option, Some, None, ◌↔◌, option_to_list, cases_eq, cases_lt, eq-eqb, eqb-true, false_from_ne_true, true≢false, append_cancel_left, length-append, length-take-le, take-append-le, slice_get, take, take_all, Debt, Account, Gains, Strike, debt_deadlines, earliest, debt_of, AreGains, IsAccount, IsAfter, SharesNext, account_debts, entries_of, entry_at, is_left, is_struck, must_at, owes_at, strikes_of, holds}
 use Rattle.sip_ledger.proofs.debts.OwedLemmas.{listed-any}
 use Rattle.sip_ledger.proofs.gains.LeftLemmas.{left-kept, owed-left, rising_kept}
 use Rattle.sip_ledger.proofs.debts.ListedLemmas.{back, back-none, back-set, front, front-gap, front-next, front-on, listed-each, listed-none, listed-same, parts}
@@ -46,6 +46,10 @@ module _ {gains : Gains} {strikes : List Strike} {a : Account} where
   told-all {place} {debts} is was past =
       let none : back (owes_at gains strikes a) (must_at gains a) (entries_of gains) place ≡ [] = grind (arith, back-none, past-end) in
       sym (told-split is was ∙ ap (λ l. debts ++ l) none ∙ append-nil debts)
+
+  -- what it owes first is the debt of the place where it starts
+  pub told-start : IsAccount gains strikes a → a.start < a.end → slice_get (account_debts gains strikes a) 0 ≡ Some (debt_of (entry_at (entries_of gains) a.start) (must_at gains a a.start))
+  told-start is some = ap (λ l. slice_get l 0) (told-here is (told-none is refl) some)
 
   -- before a place of it, it owes the first of its debts
   pub told-first : {place n : ℕ} {debts : List Debt} → IsAccount gains strikes a → IsToldTo gains strikes a place debts → length debts ≡ n → debts ≡ take n (account_debts gains strikes a)

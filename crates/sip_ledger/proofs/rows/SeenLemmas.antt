@@ -5,6 +5,7 @@ use Rattle.sip_ledger.proofs.account.AccountLemmas.{kept-start, debts_length, ro
 use Rattle.sip_ledger.proofs.gains.LeftLemmas.{entries_long, held_left, owed-left}
 use Rattle.sip_ledger.proofs.debts.OwedLemmas.{listed-any, some-debt}
 use Rattle.sip_ledger.proofs.account.FindLemmas.{unpaid-account}
+use Rattle.sip_ledger.proofs.account.ToldLemmas.{told-start}
 
 -- what holds is said of an answer that is an error
 pub on-error : {T E P : Type 0} (r : Result T E) → IsErr r → P → OnErr r P
@@ -127,6 +128,9 @@ can-pay gains strikes a message t None is some none = grind (arith, nat_tests, l
 
 -- lemmas for the prover under one name: what contracts see of rows, by their accounts
 pub ruleset of_rows = (debts_length, account-at, alone, can-pay, truncated, on-err, on-error, over-to, unchanged, without-first_rows, drop_min)
+
+-- lemmas for the prover under one name: what a row owes first
+pub ruleset first_of_rows = (account-at, debts_length, empty-debts, entries_long, kept-start, told-start)
 
 -- a send at moment 0 can pay each debt of its message
 pub payable-owes : (message : ℕ) (debts : List Debt) → list_any (is_payable message 0) debts ≡ owes_message message debts

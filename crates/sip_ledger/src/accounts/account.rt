@@ -576,7 +576,7 @@ fn earlier(moment: u64, other: Option<u64>) -> u64
 }
 
 /// What the account owes at a place, as far as it owes something there.
-fn debt_for(gains: &Gains, account: Account, place: usize) -> Debt
+pub(crate) fn debt_for(gains: &Gains, account: Account, place: usize) -> Debt
     requires gained { AreGains gains.now }
     requires kept { IsUndropped gains.now place }
     ensures { result ≡ debt_of (entry_at (entries_of gains.now) place) (must_at gains.now account place) }

@@ -1,12 +1,13 @@
 -- How a debt is looked for: among the first debts, one by one, and among the messages with a To. P holds of debts, of which a send at t pays one.
 -- In the lemmas t is the moment of a send, n how many debts are looked at, and xs and ys are the first debts and the others.
 use Prim.Native.Nat.{suc, zero}
-use Rattle.std.specs.Prelude.{◌≡◌, ◌<◌, ◌≤◌, ◌+◌, ◌↔◌, ◌++◌, ℕ, Bool, true, false, IsTrue, Option, Some, None, List, [], ◌∷◌, All, drop, get_or, is_some, length, take}
+use Rattle.std.specs.Prelude.{◌≡◌, ◌<◌, ◌≤◌, ◌+◌, ◌↔◌, ◌++◌, ℕ, Bool, true, false, IsTrue, Option, Some, None, List, [], ◌∷◌, All, drop, get_or, is_some, length, slice_get, take}
 use Rattle.std.proofs.Common.{refl, sym, ◌∙◌, ap, subst, inl, inr, arith, cond, true≢false}
 use Rattle.std.proofs.lemmas.Bool.{cases_eq, false_from_ne_true, ne_eqb}
 use Rattle.std.proofs.lemmas.Bool.Decides.{nat_tests}
 use Rattle.std.proofs.lemmas.List.{append_assoc, length-append, length-take, take-append-drop, take_all}
 use Rattle.std.proofs.lemmas.List.Elements.{All-cons, All-head, All-more, All-nil, All-tail, All-weaker}
+use Rattle.std.proofs.lemmas.Option.{get_or_from_slice_get}
 use Rattle.sip_ledger.specs.declared.debt.Debt.{Debt}
 use Rattle.sip_ledger.specs.Debts.{IsFirstPaid, PaysSome, is_payable, paid_by}
 use Rattle.sip_ledger.specs.Indexes.{holds}
@@ -48,6 +49,20 @@ without-later P debt debts left fails a = record {
   holds = a.holds;
   none_before = All-cons (λ x. ¬ (P x)) debt a.before fails a.none_before;
   rest = ap (λ ds. debt ∷ ds) a.rest;
+}
+
+-- where P holds of what is owed first, that is found
+pub first-here : (P : Debt → Type 0) (t : ℕ) (debts : List Debt) (debt : Debt) → Some debt ≡ slice_get debts 0 → P debt → t ≤ debt.deadline → FindsFirst P t debts (Some debt.message)
+first-here P t [] debt is holds now = absurd (true≢false (ap (λ o. is_some o) is))
+first-here P t (d ∷ ds) debt is holds now = record {
+  before = [];
+  first = debt;
+  after = ds;
+  whole = ap (λ x. x ∷ ds) (get_or_from_slice_get (d ∷ ds) 0 debt debt (sym is));
+  holds = holds;
+  none_before = All-nil (λ x. ¬ (P x));
+  rest = subst (λ x. paid_by debt.message t (x ∷ ds) ≡ ds) (sym (get_or_from_slice_get (d ∷ ds) 0 debt debt (sym is)))
+      (ap (λ b. cond b ds (debt ∷ paid_by debt.message t ds)) (payable-now debt.message t debt refl now));
 }
 
 -- What follows is of a send of one message at the moment t, which pays only debts of which P holds.

@@ -16,9 +16,6 @@ use sip_key::{is_ack_for, solid_of};
 use sip_ledger::{Accounts, Debt, Index};
 use std::alloc::{AllocError, Global};
 
-/// How many of the oldest debts are looked at before any hash.
-const OLDEST: usize = 8;
-
 /// In how many steps a debt is looked for among the messages under a hash: in so many first, and in the next of these where they do not tell. In between
 /// four times as many of the oldest debts are looked at, which take as long.
 const STEPS: [usize; 6] = [64, 512, 4096, 32_768, 262_144, usize::MAX];
@@ -65,7 +62,7 @@ pub(crate) fn first_acked(
 }
 
 /// The message of the first debt of the row whose message has this To, from which the blanks were taken, and whose deadline has
-/// not passed. The oldest debts are looked at first. Where they have another To, it is looked for among the messages that the book keeps
+/// not passed. The oldest debt is looked at first. Where it is another one, it is looked for among the messages that the book keeps
 /// under the hash of the To, and among the oldest debts, in turn. Where hashes do not stand, each different message that the row owes is looked at.
 fn first_with_to(
     alloc: Global,
@@ -79,8 +76,12 @@ fn first_with_to(
     requires owed { All (Keeps book.now) (owes_names (owed_in accounts.now row)) }
     ensures { IfOk result (FindsFirst (HasTo book.now to.now moment) moment (owed_in accounts.now row)) }
 {
-    if let Some(found) = first_of_oldest(alloc, book, to, moment, accounts, row, OLDEST)? {
-        return Ok(found);
+    let Some(debt) = accounts.first_debt(row) else {
+        return Ok(None);
+    };
+    let message = debt.message;
+    if moment <= debt.deadline && book.has_to(alloc, message, to, &mut 0)? {
+        return Ok(Some(message));
     }
     let (low, high) = accounts.span();
     if book.hashes(low, high).is_none() {

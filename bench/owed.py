@@ -194,6 +194,24 @@ def acks_of_other_calls(count, _):
         yield "S", 0, text("ACK sip:b SIP/2.0", "ACK", 1, f"t{number}")
 
 
+def acks_between(count, _):
+    """Refusals that differ in their To, and after each of them another one twice, of which one gets its ACK: the ACK is kept among what is owed."""
+    yield "S", 0, text(INVITE)
+    for number in range(count):
+        yield "R", 0, reply(486, f"t{number}")
+        yield from 2 * [("R", 0, reply(486, "a"))]
+        yield "S", 0, text("ACK sip:b SIP/2.0", "ACK", 1, "a")
+
+
+def acks_in_another_order(count, _):
+    """Refusals that differ and have one To, after one with another To. They come again, the newest first, and then as many ACKs."""
+    yield "S", 0, text(INVITE)
+    yield "R", 0, reply(486, "a")
+    for number in (*range(count), *reversed(range(count))):
+        yield "R", 0, reply(f"486 {number}", "t")
+    yield from 2 * count * [("S", 0, text("ACK sip:b SIP/2.0", "ACK", 1, "t"))]
+
+
 def acks_of_long_tos(count, _):
     """Refusals whose Tos are long and differ in their ends alone; their ACKs, newest first."""
     yield from refused(count, lambda it: 300 * "t" + str(it), reversed)
@@ -285,7 +303,9 @@ LOGS = [
     (acks_but_the_first, 4000, (1,)),
     (acks_past_two, 4000, (1,)),
     (acks_of_two_in_turn, 2000, (1,)),
-    (acks_of_other_calls, 1000, (1,)),
+    (acks_of_other_calls, 4000, (1,)),
+    (acks_between, 2000, (1,)),
+    (acks_in_another_order, 2000, (1,)),
     (acks_of_long_tos, 4000, (1,)),
     # Debts that are equal, paid by all states at once, or past.
     (equal_debts, 25000, (1, 1024)),

@@ -5,7 +5,7 @@ ghost use Rattle.std.specs.Prelude.{◌<◌, length};
 use crate::chance::{Chance, evens};
 use crate::wants::{Done, holds, holds_of};
 use sip_ledger::{Accounts, Debt, Index};
-use std::alloc::{AllocError, Global};
+use std::alloc::Global;
 use std::process::Abort;
 use std::test::Fail;
 
@@ -43,10 +43,8 @@ impl Played {
     }
 
     /// The number of a row.
-    fn row(&self, rt: &impl Abort, chance: &mut Chance) -> usize {
-        let row = chance.below(self.lists.len() as u64) as usize;
-        holds(rt, row < self.lists.len(), "a row of the lists");
-        row
+    fn row(&self, chance: &mut Chance) -> usize {
+        chance.below(self.lists.len() as u64) as usize
     }
 
     /// A row comes that owes nothing.
@@ -60,8 +58,7 @@ impl Played {
     fn push_copy(&mut self, rt: &impl Abort, row: usize) -> Done {
         self.has(rt, row);
         self.accounts.push_copy(row)?;
-        let copy = self.lists[row].clone()?;
-        self.lists.push(copy)?;
+        self.lists.push(self.lists[row].clone()?)?;
         Ok(())
     }
 
@@ -70,8 +67,7 @@ impl Played {
         self.has(rt, from);
         self.has(rt, to);
         self.accounts.copy(from, to);
-        let copy = self.lists[from].clone()?;
-        self.lists[to] = copy;
+        self.lists[to] = self.lists[from].clone()?;
         Ok(())
     }
 
@@ -81,7 +77,8 @@ impl Played {
         self.accounts.push_paid(from, to, message, moment)?;
         for row in from..to {
             holds(rt, row < self.lists.len(), "a row of the lists");
-            if let Some(left) = left_of(&self.lists[row], message, moment)? {
+            let mut left = self.lists[row].clone()?;
+            if is_timely(&left, moment) && pays(&mut left, message, moment) {
                 self.lists.push(left)?;
             }
         }
@@ -95,8 +92,7 @@ impl Played {
         for row in from..to {
             holds(rt, row < self.lists.len(), "a row of the lists");
             if is_timely(&self.lists[row], moment) {
-                let copy = self.lists[row].clone()?;
-                self.lists.push(copy)?;
+                self.lists.push(self.lists[row].clone()?)?;
             }
         }
         Ok(())
@@ -140,16 +136,10 @@ impl Played {
     /// The row pays the first debt that a send of the message pays, if there is one, and loses what it may send and whose deadline is past.
     fn pay_and_expire(&mut self, rt: &impl Abort, row: usize, message: u64, moment: u64) -> Done {
         self.has(rt, row);
-        let first = self.lists[row]
-            .iter()
-            .position(|debt| debt.message == message && moment <= debt.deadline);
         let can = self.accounts.can_pay(row, message, moment);
-        holds(rt, can == first.is_some(), "whether it can pay");
         self.accounts.pay_and_expire(row, message, moment)?;
-        if let Some(first) = first {
-            self.lists[row].remove(first);
-        }
-        self.lists[row].retain(|debt| debt.must || moment <= debt.deadline);
+        let paid = pays(&mut self.lists[row], message, moment);
+        holds(rt, can == paid, "whether it can pay");
         Ok(())
     }
 
@@ -196,9 +186,16 @@ impl Played {
         Ok(())
     }
 
-    /// The debts of the row are those of this list.
+    /// The debts of the row are those of this list, also where fewer or more of the first ones are asked for than it owes.
     fn owes_debts(&self, rt: &impl Abort, row: usize, list: &[Debt]) -> Done {
         holds(rt, row < self.accounts.len(), "a row of the accounts");
+        let first = self.accounts.first_debt(row);
+        holds_of(rt, first == list.first().copied(), "first debt", row);
+        for most in [list.len() / 2, list.len(), usize::MAX] {
+            let debts = self.accounts.first_debts(self.alloc, row, most)?;
+            let wants = list.get(..most).unwrap_or(list);
+            holds_of(rt, debts.as_slice() == wants, "first debts", row);
+        }
         let runs = self.accounts.runs(self.alloc, row)?;
         let mut debts = Vec::new(self.alloc);
         for run in &runs {
@@ -237,36 +234,24 @@ impl Played {
         names.sort_unstable();
         names.dedup();
         let mut once = Vec::new(self.alloc);
-        holds(rt, row < self.accounts.len(), "a row of the accounts");
         self.accounts.names_once(row, &mut once)?;
         holds_of(rt, once.as_slice() == names.as_slice(), "names once", row);
         Ok(())
     }
 
-    /// The row owes this list, whatever it is asked.
-    fn owes(&self, rt: &impl Abort, row: usize, list: &[Debt]) -> Done {
-        self.owes_debts(rt, row, list)?;
-        self.owes_first(rt, row, list);
-        self.owes_in_time(rt, row, list)?;
-        self.owes_names(rt, row, list)
-    }
-
-    /// What the row owes first is what stands first in this list.
-    fn owes_first(&self, rt: &impl Abort, row: usize, list: &[Debt]) {
-        holds(rt, row < self.accounts.len(), "a row of the accounts");
-        let first = self.accounts.first_debt(row);
-        holds_of(rt, first == list.first().copied(), "first debt", row);
-    }
-
-    /// The first debt that a send of a message pays that stands under a key is the first such debt of this list. It is found in three steps,
-    /// perhaps in fewer, and not in none.
+    /// The first debt that a send of a message pays that stands under a key is the first such debt of this list.
     fn pays_one_first(&self, rt: &impl Abort, row: usize, list: &[Debt], moment: u64) -> Done {
         // Each two of the messages 0, 1 and 2.
-        for messages in [[2, 1], [0, 2], [1, 0]] {
+        for two in [[2, 1], [0, 2], [1, 0]] {
             let mut index = Index::new(self.alloc);
-            put_each(&mut index, messages)?;
-            let wants = first_of(list, messages, moment);
-            self.pays_first(rt, row, &index, moment, wants);
+            // Two messages stand under the key 7, and others under the keys beside it.
+            for (key, message) in [(7, two[0]), (7, two[1]), (6, 0), (8, 3)] {
+                index.put(key, message)?;
+            }
+            let mut debts = list.iter();
+            let first = debts.find(|debt| two.contains(&debt.message) && moment <= debt.deadline);
+            let want = first.map(|debt| debt.message);
+            self.pays_first(rt, row, &index, moment, want);
         }
         Ok(())
     }
@@ -297,20 +282,14 @@ impl Played {
         holds(rt, !same || alike, "prints");
     }
 
-    /// The messages that rows owe, from the least on, each once.
-    fn messages(&self) -> Result<Vec<u64>, AllocError> {
-        let mut messages = Vec::new(self.alloc);
-        for debt in self.lists.iter().flatten() {
-            messages.push(debt.message)?;
-        }
-        messages.sort_unstable();
-        messages.dedup();
-        Ok(messages)
-    }
-
     /// The messages that rows owe are told, from the least on, each once, and two numbers between which they lie.
     fn names_all(&self, rt: &impl Abort) -> Done {
-        let wants = self.messages()?;
+        let mut wants = Vec::new(self.alloc);
+        for debt in self.lists.iter().flatten() {
+            wants.push(debt.message)?;
+        }
+        wants.sort_unstable();
+        wants.dedup();
         let mut names = Vec::new(self.alloc);
         self.accounts.all_names(&mut names)?;
         holds(rt, names.as_slice() == wants.as_slice(), "all names");
@@ -321,55 +300,32 @@ impl Played {
     }
 
     /// Asserts that each row owes the debts of its list and has their print.
-    fn agree_on(&self, rt: &impl Abort, prints: &[u64]) -> Done {
+    fn agree(&self, rt: &impl Abort) -> Done {
+        holds(rt, self.accounts.len() == self.lists.len(), "count of rows");
+        self.names_all(rt)?;
+        let prints = self.accounts.prints(self.alloc, 0)?;
         for (row, list) in self.lists.iter().enumerate() {
-            self.owes(rt, row, list)?;
+            self.owes_debts(rt, row, list)?;
+            self.owes_in_time(rt, row, list)?;
+            self.owes_names(rt, row, list)?;
             for other in 0..self.lists.len() {
-                self.compares(rt, prints, row, other);
+                self.compares(rt, &prints, row, other);
             }
         }
         Ok(())
     }
-
-    /// Asserts that each row owes the debts of its list.
-    fn agree(&self, rt: &impl Abort) -> Done {
-        let is_as_long = self.accounts.len() == self.lists.len();
-        holds(rt, is_as_long, "count of rows");
-        self.names_all(rt)?;
-        let prints = self.accounts.prints(self.alloc, 0)?;
-        self.agree_on(rt, &prints)
-    }
 }
 
-/// What is left of a list that pays, unless it pays nothing or must send what is past.
-fn left_of(list: &Vec<Debt>, message: u64, moment: u64) -> Result<Option<Vec<Debt>>, AllocError> {
-    let mut left = list.clone()?;
-    let first = left
+/// The list loses the first debt that a send of the message pays, if there is one, and what is past. Tells whether there was one.
+fn pays(list: &mut Vec<Debt>, message: u64, moment: u64) -> bool {
+    let first = list
         .iter()
         .position(|debt| debt.message == message && moment <= debt.deadline);
-    let (Some(first), true) = (first, is_timely(&left, moment)) else {
-        return Ok(None);
-    };
-    left.remove(first);
-    left.retain(|debt| debt.must || moment <= debt.deadline);
-    Ok(Some(left))
-}
-
-/// Puts two messages under the key 7, and others under the keys beside it.
-fn put_each(index: &mut Index, [one, other]: [u64; 2]) -> Result<(), AllocError> {
-    index.put(7, one)?;
-    index.put(7, other)?;
-    index.put(6, 0)?;
-    index.put(8, 3)
-}
-
-/// The message of the first debt of the list that a send of one of these messages pays.
-fn first_of(list: &[Debt], [one, other]: [u64; 2], moment: u64) -> Option<u64> {
-    let mut debts = list.iter();
-    let first = debts.find(|debt| {
-        (debt.message == one || debt.message == other) && moment <= debt.deadline
-    });
-    first.map(|debt| debt.message)
+    if let Some(first) = first {
+        list.remove(first);
+    }
+    list.retain(|debt| debt.must || moment <= debt.deadline);
+    first.is_some()
 }
 
 /// The least deadline of what must be sent.
@@ -406,8 +362,8 @@ fn gain_some(rt: &impl Abort, chance: &mut Chance, played: &mut Played, deadline
 
 /// Rows come and go.
 fn change_rows(rt: &impl Abort, chance: &mut Chance, played: &mut Played) -> Done {
-    let row = played.row(rt, chance);
-    let other = played.row(rt, chance);
+    let row = played.row(chance);
+    let other = played.row(chance);
     match chance.below(8) {
         0 if played.lists.len() < 12 => played.push()?,
         1 | 2 if played.lists.len() < 12 => played.push_copy(rt, row)?,
@@ -422,8 +378,8 @@ fn change_rows(rt: &impl Abort, chance: &mut Chance, played: &mut Played) -> Don
 
 /// Many rows change at once.
 fn change_many(rt: &impl Abort, chance: &mut Chance, played: &mut Played, moment: u64) -> Done {
-    let from = played.row(rt, chance);
-    let to = played.row(rt, chance);
+    let from = played.row(chance);
+    let to = played.row(chance);
     let message = chance.below(3);
     match chance.below(6) {
         0 if played.lists.len() < 12 => played.push_timely(rt, from, to, moment)?,
@@ -441,7 +397,7 @@ fn change_many(rt: &impl Abort, chance: &mut Chance, played: &mut Played, moment
 
 /// A step by chance, each arm as often as it has numbers. Deadlines rise with the clock, or are one of 0, 10, 20 and 30.
 fn step(rt: &impl Abort, chance: &mut Chance, played: &mut Played, rises: bool) -> Done {
-    let row = played.row(rt, chance);
+    let row = played.row(chance);
     let now = played.clock;
     let moment = if rises { now } else { chance.below(40) };
     let later = now.saturating_add(5);
@@ -465,7 +421,7 @@ fn step(rt: &impl Abort, chance: &mut Chance, played: &mut Played, rises: bool) 
 
 /// A step by chance, in which a row gains or pays, and loses what is past.
 fn step_with_past(rt: &impl Abort, chance: &mut Chance, played: &mut Played) -> Done {
-    let row = played.row(rt, chance);
+    let row = played.row(chance);
     let now = played.clock;
     let message = chance.below(3);
     match chance.below(6) {
@@ -493,9 +449,16 @@ fn steps(rt: &impl Abort, played: &mut Played, seed: u64, count: u64, kind: u64)
     Ok(())
 }
 
-/// Twelve seeds, of which every second one has deadlines that rise with the clock.
+/// Twelve seeds, of which every second one has deadlines that rise with the clock. Before them two rows gain a debt, the second after all that it owes,
+/// while the first gains it at an earlier place.
 #[test]
 fn accounts_owe_what_plain_lists_have(rt: HostRuntime) -> Done {
+    let mut played = Played::new(&rt)?;
+    played.push_copy(&rt, 0)?;
+    played.gain_and_expire(&rt, 1, owed(1, 10, true), 0)?;
+    played.gain_and_expire(&rt, 1, owed(2, 10, true), 0)?;
+    played.gain_each(0, owed(1, 10, true))?;
+    played.agree(&rt)?;
     for seed in 0..12 {
         steps(&rt, &mut Played::new(&rt)?, seed, 80, seed % 2)?;
     }
@@ -521,48 +484,40 @@ fn rows_that_pay_lose_what_is_past(rt: HostRuntime) -> Done {
     played.agree(&rt)
 }
 
-/// The first row gains this many equal debts, and pays them and one more.
-fn gains_and_pays(rt: &impl Abort, played: &mut Played, count: usize) -> Done {
-    for _ in 0..count {
-        played.gain_and_expire(rt, 0, owed(7, 10, true), 0)?;
-    }
-    played.agree(rt)?;
-    for _ in 0..=count {
-        played.pay_and_expire(rt, 0, 7, 10)?;
-    }
-    played.agree(rt)
-}
-
 /// A row owes equal debts as often as it gained them, also about the counts at which a word of 64 bits would end.
 #[test]
 fn equal_debts_count_as_often_as_they_were_gained(rt: HostRuntime) -> Done {
     for count in [0, 1, 63, 64, 65] {
-        gains_and_pays(&rt, &mut Played::new(&rt)?, count)?;
+        let mut played = Played::new(&rt)?;
+        for _ in 0..count {
+            played.gain_and_expire(&rt, 0, owed(7, 10, true), 0)?;
+        }
+        played.agree(&rt)?;
+        // The row pays them, and once more.
+        for _ in 0..=count {
+            played.pay_and_expire(&rt, 0, 7, 10)?;
+        }
+        played.agree(&rt)?;
     }
     Ok(())
 }
 
-/// A moment at which a debt comes to both rows, of one of five messages; each seventh must be sent. Then each row pays another message, and both lose
-/// what is past.
-fn lives(rt: &impl Abort, played: &mut Played, moment: u64) -> Done {
-    let debt = owed(moment % 5, moment.saturating_add(3), moment % 7 == 0);
-    played.gain_and_expire(rt, 0, debt, 0)?;
-    played.gain_and_expire(rt, 1, debt, 0)?;
-    played.pay_and_expire(rt, 0, moment.saturating_add(3) % 5, moment)?;
-    played.pay_and_expire(rt, 1, moment.saturating_add(4) % 5, moment)?;
-    played.expire(rt, 0, moment)?;
-    played.expire(rt, 1, moment)?;
-    played.accounts.tidy();
-    played.agree(rt)
-}
-
-/// Two rows to which debts come at each moment, and that pay them or let them expire: what was gained long ago is dropped.
+/// Two rows to which a debt comes at each moment, of one of five messages; each seventh must be sent. Then each row pays another message, and both lose
+/// what is past: what was gained long ago is dropped.
 #[test]
 fn what_is_owed_is_told_after_a_long_life(rt: HostRuntime) -> Done {
     let mut played = Played::new(&rt)?;
     played.push_copy(&rt, 0)?;
-    for moment in 0..150 {
-        lives(&rt, &mut played, moment)?;
+    for moment in 0..150_u64 {
+        let debt = owed(moment % 5, moment.saturating_add(3), moment % 7 == 0);
+        played.gain_and_expire(&rt, 0, debt, 0)?;
+        played.gain_and_expire(&rt, 1, debt, 0)?;
+        played.pay_and_expire(&rt, 0, moment.saturating_add(3) % 5, moment)?;
+        played.pay_and_expire(&rt, 1, moment.saturating_add(4) % 5, moment)?;
+        played.expire(&rt, 0, moment)?;
+        played.expire(&rt, 1, moment)?;
+        played.accounts.tidy();
+        played.agree(&rt)?;
     }
     Ok(())
 }
@@ -577,10 +532,9 @@ fn rows_meet_by_other_places(rt: HostRuntime) -> Done {
         played.gain_each(0, owed(7, 10, true))?;
         played.gain_and_expire(&rt, 2, owed(3, 10, true), 0)?;
     }
-    played.gain_and_expire(&rt, 0, owed(1, 10, true), 0)?;
-    played.gain_and_expire(&rt, 1, owed(2, 10, true), 0)?;
-    played.gain_and_expire(&rt, 0, owed(2, 10, true), 0)?;
-    played.gain_and_expire(&rt, 1, owed(1, 10, true), 0)?;
+    for (row, message) in [(0, 1), (1, 2), (0, 2), (1, 1)] {
+        played.gain_and_expire(&rt, row, owed(message, 10, true), 0)?;
+    }
     played.agree(&rt)?;
     played.pay_and_expire(&rt, 0, 2, 10)?;
     played.pay_and_expire(&rt, 1, 2, 10)?;

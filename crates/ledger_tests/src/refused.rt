@@ -1,16 +1,15 @@
 //! Calls on accounts in which a growth is refused. `tests/growths` refuses each growth in turn: the test then fails with want of memory, once it has
 //! seen that the call left all as it was, and that the same call succeeds with memory.
 use crate::accounts::owed;
-use crate::wants::{Done, holds, holds_of, is};
+use crate::wants::{Done, holds, holds_of};
 use sip_ledger::Accounts;
 use std::alloc::AllocError;
 use std::process::Abort;
 
 /// Asserts that two accounts have the same rows.
 fn alike(rt: &(impl Abort + AllocGlobal), accounts: &Accounts, twin: &Accounts) -> Done {
-    is(rt, accounts.len(), twin.len());
+    holds(rt, accounts.len() == twin.len(), "count of rows");
     for row in 0..accounts.len() {
-        holds(rt, row < twin.len(), "a row of the twin");
         let owed = accounts.runs(rt.alloc(), row)?;
         let owes = twin.runs(rt.alloc(), row)?;
         holds_of(rt, owed.as_slice() == owes.as_slice(), "debts", row);
@@ -69,15 +68,19 @@ fn names_again(rt: &(impl Abort + AllocGlobal), accounts: &Accounts) -> Done {
     Ok(asked?)
 }
 
-/// Does 48 steps on two rows, each by a second call where memory was refused, and keeps the rows few.
-fn go_on(rt: &(impl Abort + AllocGlobal), accounts: &mut Accounts, twin: &mut Accounts) -> Done {
+/// Two accounts take the same 48 steps on two rows, which are kept few: where memory is refused to the first, it has to be as the second, which has not
+/// taken the step yet.
+#[test]
+fn accounts_are_as_before_after_a_refused_growth(rt: HostRuntime) -> Done {
+    let mut accounts = Accounts::new(rt.alloc());
+    let mut twin = Accounts::new(rt.alloc());
     for _ in 0..2 {
         accounts.push()?;
         twin.push()?;
     }
     for number in 0..48_u32 {
-        step_again(rt, accounts, twin, number)?;
-        names_again(rt, accounts)?;
+        step_again(&rt, &mut accounts, &mut twin, number)?;
+        names_again(&rt, &accounts)?;
         if number % 8 == 7 {
             accounts.tidy();
             twin.tidy();
@@ -86,12 +89,4 @@ fn go_on(rt: &(impl Abort + AllocGlobal), accounts: &mut Accounts, twin: &mut Ac
         }
     }
     Ok(())
-}
-
-/// Two accounts take the same steps: where memory is refused to the first, it has to be as the second, which has not taken the step yet.
-#[test]
-fn accounts_are_as_before_after_a_refused_growth(rt: HostRuntime) -> Done {
-    let mut accounts = Accounts::new(rt.alloc());
-    let mut twin = Accounts::new(rt.alloc());
-    go_on(&rt, &mut accounts, &mut twin)
 }

@@ -1,6 +1,6 @@
 //! ACKs of an INVITE client for responses of which all have their To beside them, one alone has, or none has.
 
-ghost use Rattle.std.specs.Prelude.{[], ◌≡◌, ◌<◌, ◌≤◌, ℕ, OnOk};
+ghost use Rattle.std.specs.Prelude.{[], ◌≡◌, ◌<◌, ◌≤◌, ℕ, IfOk, OnOk};
 ghost use Rattle.sip_machine.specs.Texts.{Keeps};
 
 use crate::messages::{Numbered, Start, book_of, keep, text_of};
@@ -139,7 +139,69 @@ fn nine(alloc: Global) -> Result<Book, Fail> {
     book_of(alloc, &NINE, "INVITE", "UDP")
 }
 
-/// How many refusals there are in the next tests: with that many of one call, the book puts the To of each message beside it.
+/// The INVITE, nine 486s with a To each, two refusals with one To more, and the ACK for that.
+const PAST_OTHERS: [Numbered; 13] = [
+    (1, Start::Request("INVITE"), None),
+    (2, Start::Response(486), Some(2)),
+    (3, Start::Response(486), Some(3)),
+    (4, Start::Response(486), Some(4)),
+    (5, Start::Response(486), Some(5)),
+    (6, Start::Response(486), Some(6)),
+    (7, Start::Response(486), Some(7)),
+    (8, Start::Response(486), Some(8)),
+    (9, Start::Response(486), Some(9)),
+    (10, Start::Response(486), Some(10)),
+    (11, Start::Response(486), Some(11)),
+    (12, Start::Response(487), Some(11)),
+    (13, Start::Request("ACK"), Some(11)),
+];
+
+/// The nine come first, and the 487 before the 486 with its To. The ACK is sent in the last millisecond in which it may be, and pays the older of the two.
+static PAST_OTHERS_ROWS: [Row<InviteClientPhase>; 1] = [(
+    &[
+        (0, Action::Sent, 1),
+        (100, Action::Received, 2),
+        (100, Action::Received, 3),
+        (100, Action::Received, 4),
+        (100, Action::Received, 5),
+        (100, Action::Received, 6),
+        (100, Action::Received, 7),
+        (100, Action::Received, 8),
+        (100, Action::Received, 9),
+        (100, Action::Received, 10),
+        (100, Action::Received, 12),
+        (100, Action::Received, 11),
+        (150, Action::Sent, 13),
+    ],
+    &[(
+        InviteClientPhase::Completed {
+            reliable: false,
+            request: 1,
+            set: 100,
+        },
+        &[
+            (2, 150, MUST),
+            (3, 150, MUST),
+            (4, 150, MUST),
+            (5, 150, MUST),
+            (6, 150, MUST),
+            (7, 150, MUST),
+            (8, 150, MUST),
+            (9, 150, MUST),
+            (10, 150, MUST),
+            (11, 150, MUST),
+        ],
+    )],
+)];
+
+/// Of two debts with one To, which come after nine with others, the ACK pays the older one.
+#[test]
+fn an_ack_pays_the_older_of_two_past_others(rt: HostRuntime) -> Result<(), Fail> {
+    let book = book_of(rt.alloc(), &PAST_OTHERS, "INVITE", "UDP")?;
+    lead(&rt, &book, &PAST_OTHERS_ROWS)
+}
+
+/// How many refusals there are in the next tests: where a search looks at that many, the book puts the To of each message beside it.
 const MANY: u64 = 256;
 
 /// The number of the 486 with this tag: 10, 12 and so on, so that 11 is left for another request.
@@ -211,7 +273,18 @@ fn acks_find_their_debts_among_many(rt: HostRuntime) -> Result<(), Fail> {
 fn states_of_many(alloc: Global, entries: &[Entry]) -> Result<Vec<State<InviteClientPhase>>, Fail> {
     let mut book = book_of(alloc, &many(alloc)?, "INVITE", "UDP")?;
     keep_tos(alloc, &mut book)?;
-    states_after(alloc, &book, entries)
+    states_beside(alloc, &mut book, entries)
+}
+
+/// The states of the client after the entries, where the To of each message stands beside it, since a search looked at many before.
+fn states_beside(
+    alloc: Global,
+    book: &mut Book,
+    entries: &[Entry],
+) -> Result<Vec<State<InviteClientPhase>>, Fail> {
+    states_after(alloc, book, entries)?;
+    keep_to(alloc, book, 1)?;
+    states_after(alloc, book, entries)
 }
 
 /// Keeps the To of each of the 486s beside it.
@@ -263,14 +336,15 @@ fn book_with_tos(alloc: Global, messages: &[Numbered], below: u64) -> Result<Boo
     Ok(book)
 }
 
-/// Keeps the messages in an empty book, and beside each whose number is below this one its To.
+/// Keeps the messages in an empty book, and beside each whose number is below this one its To. It tells the greatest number.
 fn keep_with_tos(
     alloc: Global,
     book: &mut Book,
     messages: &[Numbered],
     below: u64,
-) -> Result<(), Fail>
+) -> Result<u64, Fail>
     requires { book.old ≡ [] }
+    ensures { IfOk result (λ last. (n : ℕ) → Keeps book.new n → n ≤ last) }
 {
     let mut last = 0;
     for &(number, start, tag) in messages {
@@ -283,7 +357,7 @@ fn keep_with_tos(
             keep_to(alloc, book, number)?;
         }
     }
-    Ok(())
+    Ok(last)
 }
 
 /// The INVITE, many refusals of which each two have one To, and an ACK for each To, from the number 1000 on.
@@ -344,8 +418,8 @@ fn states_of_pairs(
     alloc: Global,
     entries: &[Entry],
 ) -> Result<Vec<State<InviteClientPhase>>, Fail> {
-    let book = book_with_tos(alloc, &pairs(alloc)?, 1000)?;
-    states_after(alloc, &book, entries)
+    let mut book = book_with_tos(alloc, &pairs(alloc)?, 1000)?;
+    states_beside(alloc, &mut book, entries)
 }
 
 /// A refusal that was acknowledged and came again is owed after those that came since. So the next ACK for its To pays the other refusal with
@@ -355,7 +429,7 @@ fn a_refusal_that_came_again_is_paid_after_the_others(rt: HostRuntime) -> Result
     let mut entries = Vec::new(rt.alloc());
     push_one_again(&mut entries)?;
     let states = states_of_pairs(rt.alloc(), &entries)?;
-    holds(&rt, are_all_but_last(owed(&states)), "all but the last");
+    holds(&rt, are_first(owed(&states), MANY - 1), "all but the last");
     Ok(())
 }
 
@@ -374,56 +448,91 @@ fn push_one_again(entries: &mut Vec<Entry>) -> Result<(), AllocError> {
 /// The number of the last of the refusals. Those of the others are at most 518.
 const LAST: u64 = 521;
 
-/// The INVITE, the ACK for the last of many refusals, and these refusals.
-fn many_and_last(alloc: Global) -> Result<Vec<Numbered>, AllocError> {
+/// The INVITE, the ACKs for the last of many refusals and for the one before it, and the refusals before the last.
+fn many_before_last(alloc: Global) -> Result<Vec<Numbered>, AllocError> {
     let mut messages = Vec::new(alloc);
-    push_many_and_last(&mut messages)?;
+    push_many_before_last(&mut messages)?;
     Ok(messages)
 }
 
-/// Appends the messages of `many_and_last`.
-fn push_many_and_last(messages: &mut Vec<Numbered>) -> Result<(), AllocError> {
+/// Appends the messages of `many_before_last`.
+fn push_many_before_last(messages: &mut Vec<Numbered>) -> Result<(), AllocError> {
     messages.push((1, Start::Request("INVITE"), None))?;
     messages.push((2, Start::Request("ACK"), Some(255)))?;
+    messages.push((3, Start::Request("ACK"), Some(254)))?;
     for tag in 0..MANY - 1 {
         messages.push((refusal(tag), Start::Response(486), Some(tag as u8)))?;
     }
-    messages.push((LAST, Start::Response(486), Some(255)))?;
     Ok(())
 }
 
-/// The INVITE is sent, all refusals are received, and the last one is acknowledged.
-fn push_to_last(entries: &mut Vec<Entry>) -> Result<(), AllocError> {
+/// The INVITE is sent, and all refusals are received but the last.
+fn push_before_last(entries: &mut Vec<Entry>) -> Result<(), AllocError> {
     entries.push((0, Action::Sent, 1))?;
     for tag in 0..MANY - 1 {
         entries.push((100, Action::Received, refusal(tag)))?;
     }
-    entries.push((100, Action::Received, LAST))?;
-    entries.push((110, Action::Sent, 2))?;
     Ok(())
 }
 
-/// Whether the debts are those of all refusals but the last, once each.
-fn are_all_but_last(runs: &[Run]) -> bool {
+/// Whether the debts are those of the first refusals, this many, once each.
+fn are_first(runs: &[Run], count: u64) -> bool {
     let owed = runs.iter().map(|run| (run.debt.message, run.count));
-    owed.eq((0..MANY - 1).map(|tag| (refusal(tag), 1)))
+    owed.eq((0..count).map(|tag| (refusal(tag), 1)))
+}
+
+/// No To stands beside a message, until an ACK was looked for among many refusals: then those of all do. The ACK for the newest refusal finds it.
+#[test]
+fn an_ack_finds_the_newest_of_many(rt: HostRuntime) -> Result<(), Fail> {
+    let mut book = book_with_tos(rt.alloc(), &many_before_last(rt.alloc())?, 0)?;
+    let mut entries = Vec::new(rt.alloc());
+    push_before_last(&mut entries)?;
+    entries.push((110, Action::Sent, 3))?;
+    let states = states_beside(rt.alloc(), &mut book, &entries)?;
+    holds(
+        &rt,
+        are_first(owed(&states), MANY - 2),
+        "all but the newest",
+    );
+    Ok(())
+}
+
+/// A refusal comes when the Tos of all messages stand beside them. Its own stands there too, and its ACK finds it.
+#[test]
+fn an_ack_finds_a_response_that_came_after_many(rt: HostRuntime) -> Result<(), Fail> {
+    let states = states_with_last(rt.alloc(), true)?;
+    holds(&rt, are_first(owed(&states), MANY - 1), "all but the last");
+    Ok(())
 }
 
 /// The Tos of all messages stand in the book but that of the last refusal, as where memory for it was refused. Its ACK finds it.
 #[test]
 fn an_ack_finds_a_response_without_its_to_among_many(rt: HostRuntime) -> Result<(), Fail> {
-    let mut entries = Vec::new(rt.alloc());
-    push_to_last(&mut entries)?;
-    let states = states_without_to(rt.alloc(), &entries)?;
-    holds(&rt, are_all_but_last(owed(&states)), "all but the last");
+    let states = states_with_last(rt.alloc(), false)?;
+    holds(&rt, are_first(owed(&states), MANY - 1), "all but the last");
     Ok(())
 }
 
-/// The states of the client after the entries, over a book that keeps the messages of `many_and_last`, and beside each but the last its To.
-fn states_without_to(
-    alloc: Global,
-    entries: &[Entry],
-) -> Result<Vec<State<InviteClientPhase>>, Fail> {
-    let book = book_with_tos(alloc, &many_and_last(alloc)?, LAST)?;
-    states_after(alloc, &book, entries)
+/// The states of the client after all refusals and the ACK for the last, over a book that keeps these, and beside each but the last its To: these stand there
+/// since an ACK was looked for among the others. That of the last stands there too if it is to.
+fn states_with_last(alloc: Global, beside: bool) -> Result<Vec<State<InviteClientPhase>>, Fail> {
+    let mut book = Book::new(alloc);
+    let last = keep_with_tos(alloc, &mut book, &many_before_last(alloc)?, LAST)?;
+    let mut entries = Vec::new(alloc);
+    push_before_last(&mut entries)?;
+    entries.push((110, Action::Sent, 2))?;
+    states_after(alloc, &book, &entries)?;
+    keep_to(alloc, &mut book, 1)?;
+    if LAST <= last {
+        return Err("out of order".into());
+    }
+    keep_text(alloc, &mut book, LAST, Start::Response(486), Some(255))?;
+    if beside {
+        keep_to(alloc, &mut book, LAST)?;
+    }
+    entries.clear();
+    push_before_last(&mut entries)?;
+    entries.push((100, Action::Received, LAST))?;
+    entries.push((110, Action::Sent, 2))?;
+    states_after(alloc, &book, &entries)
 }

@@ -17,8 +17,8 @@ mod seek;
 mod strikes;
 
 use crate::accounts::account::{
-    Account, EMPTY, debt_for, debts, earliest_must, expired, find, find_under, gained_and_expired,
-    paid_and_expired, place_for, same,
+    Account, EMPTY, debt_for, earliest_must, expired, find, find_under, first_debts,
+    gained_and_expired, paid_and_expired, place_for, same,
 };
 use crate::accounts::gains::Gains;
 use crate::accounts::left::{drop_front, let_go};
@@ -269,7 +269,8 @@ impl Accounts {
     /// Puts the number of each message that the row owes after the others, from the least on, each once. On an error some of them are there.
     pub fn names_once(&self, row: usize, numbers: &mut Vec<u64>) -> Result<(), AllocError>
         requires { row < length self.now }
-        ensures { OnOk result (AppendsOwed (owed_in self.now row ∷ []) numbers.old.items numbers.new.items) }
+        ensures ok { OnOk result (AppendsOwed (owed_in self.now row ∷ []) numbers.old.items numbers.new.items) }
+        ensures err { OnErr result (take (length numbers.old.items) numbers.new.items ≡ numbers.old.items) }
     {
         name_all(&self.gains, &self.strikes, &[self.rows[row]], numbers)
     }
@@ -308,10 +309,12 @@ impl Accounts {
         requires { row < length self.now }
         ensures { IfOk result (λ debts. debts.items ≡ owed_in self.now row) }
     {
-        debts(alloc, &self.gains, &self.strikes, self.rows[row])
+        let most = usize::MAX;
+        first_debts(alloc, &self.gains, &self.strikes, self.rows[row], most)
     }
 
     /// What the row owes first, if it owes something.
+    #[tactic(auto, using(crate::proofs::rows::SeenLemmas::first_of_rows))]
     pub fn first_debt(&self, row: usize) -> Option<Debt>
         requires { row < length self.now }
         ensures { result ≡ slice_get (owed_in self.now row) 0 }
@@ -321,6 +324,19 @@ impl Accounts {
             return None;
         }
         Some(debt_for(&self.gains, account, account.start))
+    }
+
+    /// What the row owes first: this many debts, or all where it owes fewer.
+    pub fn first_debts(
+        &self,
+        alloc: Global,
+        row: usize,
+        most: usize,
+    ) -> Result<Vec<Debt>, AllocError>
+        requires { row < length self.now }
+        ensures { IfOk result (λ debts. debts.items ≡ take most (owed_in self.now row)) }
+    {
+        first_debts(alloc, &self.gains, &self.strikes, self.rows[row], most)
     }
 
     /// Gives back what no row needs. It is to be called after each step: where many rows pay, what they paid is then looked at once.

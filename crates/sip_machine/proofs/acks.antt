@@ -1,4 +1,3 @@
--- Which debts an ACK pays: what bytes are read as, the Tos beside messages, and the messages under the hashes of their Tos.
-pub mod AckLemmas
+-- Which debts an ACK pays: the Tos beside messages, and the messages under the hashes of their Tos.
 pub mod ToLemmas
 pub mod HolderLemmas

@@ -6,7 +6,7 @@ ghost use Rattle.sip_machine.specs.Texts.{Texts, IsBook, Keeps, text_of};
 ghost use Rattle.sip_machine.specs.Retained.{only};
 ghost use Rattle.sip_message.specs.Reads.{Reads};
 ghost use Rattle.sip_machine.specs.inner.ReadAs.{IsReadAs};
-ghost use Rattle.sip_machine.specs.inner.Tos.{AreTos, IsToOf, StandUnder, count_between};
+ghost use Rattle.sip_machine.specs.inner.Tos.{AreTos, IsTo, IsToOf, StandUnder, count_between};
 ghost use Rattle.sip_machine.specs.inner.Order.{texts_of, placed, bytes_at, key_of, compare, begins_by, places_of, index_of, most_places, IsLed, IsInRuns, StandInRuns, IsInside, IsGap};
 
 mod retain;
@@ -14,7 +14,7 @@ mod retain;
 use crate::book::retain::{keep_only, lay_aside, move_all};
 use crate::event::is_unsuccessful;
 use crate::hashed::{Hashed, hash};
-use crate::tos::Tos;
+use crate::tos::{MANY, Tos};
 use sip_key::solid_of;
 use sip_ledger::Index;
 use sip_message::{Message, ReadError, StartLine};
@@ -37,8 +37,11 @@ pub struct Book {
     tos: Tos,
     /// The buffers of messages that were forgotten, for those that come.
     spare: Vec<Vec<u8>>,
-    /// How many steps searches for Tos took in vain since messages were forgotten last.
+    /// How many steps searches for Tos took in vain since messages were forgotten last, and after how many some are to be forgotten again.
     steps: Cell<usize>,
+    patience: usize,
+    /// Whether a search looked at many messages one by one, so that the Tos of all are wanted beside them.
+    wanted: Cell<bool>,
 }
 
 /// A message with the number of its first entry.
@@ -106,6 +109,8 @@ impl Book {
             tos: Tos::new(alloc),
             spare: Vec::new(alloc),
             steps: Cell::new(0),
+            patience: 0,
+            wanted: Cell::new(false),
         }
     }
 
@@ -200,30 +205,28 @@ impl Book {
         self.tos.hashes()
     }
 
-    /// Puts the To of a message beside it where an ACK is owed for the message, so that no ACK reads it anew. Where many messages
-    /// of one call are owed one, the To of each message is put beside it. Where there is no memory for the To, all is as before.
+    /// Puts the To of a message beside it where an ACK is owed for the message, so that no ACK reads it anew. Where a search looked at many
+    /// messages one by one, the To of each message is put beside it. Where there is no memory for the To, all is as before.
     pub fn keep_to(&mut self, number: u64, message: &Message<'_>)
         requires kept { Keeps self.old number }
         requires read { Reads (text_of self.old number) message.now }
         ensures { self.new ≡ self.old }
     {
-        if !stands_beside(message, self.tos.takes_all()) {
-            return;
-        }
-        if !self.tos.are_below(number) {
-            return;
-        }
-        let _ = put_to(*self.kept.allocator(), &mut self.tos, number, message);
-        if self.tos.begins_with_all(message.call_id()) {
-            self.keep_all_tos();
+        self.keep_wanted_tos();
+        if self.tos.are_below(number) && stands_beside(message, self.tos.takes_all()) {
+            let _ = put_to(*self.kept.allocator(), &mut self.tos, number, message);
         }
     }
 
-    /// Puts the To of each kept message beside it. Where there is no memory for that, those that are there stay.
-    fn keep_all_tos(&mut self)
+    /// Puts the To of each kept message beside it, if these are wanted. Where there is no memory for that, those that are there stay.
+    fn keep_wanted_tos(&mut self)
         ensures { self.new ≡ self.old }
     {
-        if let Ok(tos) = tos_of(*self.kept.allocator(), &self.kept) {
+        if !self.wanted.get() {
+            return;
+        }
+        self.wanted.set(false);
+        if let Ok(tos) = tos_of(*self.kept.allocator(), &self.kept, &self.tos) {
             self.tos.replace(tos);
         }
     }
@@ -275,10 +278,17 @@ impl Book {
         self.steps.set(self.steps.get().saturating_add(steps));
     }
 
+    /// Counts messages that a search for a To looked at one by one. Where they are many, and the Tos of all do not stand beside them, these are wanted.
+    pub(crate) fn count_messages(&self, messages: usize) {
+        if messages >= MANY && !self.tos.takes_all() {
+            self.wanted.set(true);
+        }
+    }
+
     /// Whether it costs less to forget messages now than to search for Tos among so many: searches took more steps in vain than messages are
     /// kept. The contract says nothing of the answer: it tells when to forget, and never what.
     pub fn is_slow(&self) -> bool {
-        self.steps.get() > self.kept.len()
+        self.steps.get() > self.patience.max(self.kept.len())
     }
 
     /// How many messages are kept.
@@ -295,6 +305,8 @@ impl Book {
         requires kept { All (Keeps self.old) numbers.now }
         ensures { self.new ≡ only numbers.now self.old }
     {
+        let gone = self.kept.len().saturating_sub(numbers.len());
+        self.patience = patience_after(self.patience.max(self.kept.len()), self.steps.get(), gone);
         let is_loose = self.loose.is_some();
         let kept = placed(&self.kept, is_loose);
         move_all(&mut self.order, kept, placed(numbers, is_loose));
@@ -305,15 +317,37 @@ impl Book {
     }
 }
 
+/// After how many steps in vain messages are to be forgotten again, where after these so many went. Each that is gone was passed by each search since it was
+/// not needed any more. Where fewer went than such searches need, the steps passed messages that stay, and twice as many are waited for.
+fn patience_after(patience: usize, steps: usize, gone: usize) -> usize {
+    if gone.saturating_mul(gone) < steps {
+        return patience.saturating_mul(2);
+    }
+    0
+}
+
 /// Whether the To of the message is to stand beside it: where it refuses an INVITE, since a response that does is owed an ACK; and where
-/// those of all messages are to, but for an ACK, which no state names.
+/// those of all messages are to.
 fn stands_beside(message: &Message<'_>, takes_all: bool) -> bool {
+    if takes_all {
+        return true;
+    }
     match message.start() {
         StartLine::Status { code, .. } => {
-            takes_all || (is_unsuccessful(code) && message.cseq().method == b"INVITE".as_slice())
+            is_unsuccessful(code) && message.cseq().method == b"INVITE".as_slice()
         }
-        StartLine::Request { method, .. } => takes_all && method != b"ACK".as_slice(),
+        StartLine::Request { .. } => false,
     }
+}
+
+/// Puts the To of a message, without its blanks, after the others, if the number of the message is above theirs.
+fn put_text(tos: &mut Tos, number: u64, text: Hashed) -> Result<(), AllocError>
+    ensures { (texts : Texts) → IsTo texts (record { number = number; text = text }) → AreTos texts tos.old → AreTos texts tos.new }
+{
+    if !tos.are_below(number) {
+        return Ok(());
+    }
+    tos.push(number, text)
 }
 
 /// Puts the To of a message after the others, if the number of the message is above theirs.
@@ -325,34 +359,36 @@ fn put_to(
 ) -> Result<(), AllocError>
     ensures { (texts : Texts) → Keeps texts number → Reads (text_of texts number) message.now → AreTos texts tos.old → AreTos texts tos.new }
 {
-    if !tos.are_below(number) {
-        return Ok(());
-    }
     let text = solid_of(alloc, message.to())?;
-    tos.push(number, Hashed::of(text))
+    put_text(tos, number, Hashed::of(text))
 }
 
-/// Reads a message anew and puts its To after the others, where the Tos of all messages are to stand there. It puts none of an ACK, nor of
-/// bytes that are no message.
+/// Reads a message anew and puts its To after the others. It puts none of bytes that are no message.
 fn put_read_to(alloc: Global, tos: &mut Tos, number: u64, bytes: &[u8]) -> Result<(), AllocError>
     ensures { (texts : Texts) → Keeps texts number → text_of texts number ≡ bytes.now → AreTos texts tos.old → AreTos texts tos.new }
 {
     match Message::read(alloc, bytes) {
-        Ok(message) if stands_beside(&message, true) => put_to(alloc, tos, number, &message),
+        Ok(message) => put_to(alloc, tos, number, &message),
         Err(ReadError::Memory) => Err(AllocError),
         _ => Ok(()),
     }
 }
 
-/// The Tos of these messages, which are read anew, but for those of ACKs.
-fn tos_of(alloc: Global, kept: &[KeptMessage]) -> Result<Tos, AllocError>
-    requires { IsBook (texts_of kept.now) }
+/// The Tos of these messages. Those that do not stand beside them yet are read anew.
+fn tos_of(alloc: Global, kept: &[KeptMessage], beside: &Tos) -> Result<Tos, AllocError>
+    requires book { IsBook (texts_of kept.now) }
+    requires beside { AreTos (texts_of kept.now) beside.now }
     ensures { IfOk result (AreTos (texts_of kept.now)) }
 {
     let mut tos = Tos::new(alloc);
+    let mut near = 0;
     for at in 0..kept.len() {
         let message = &kept[at];
-        put_read_to(alloc, &mut tos, message.number, message.bytes.as_slice())?;
+        let number = message.number;
+        match beside.get(number, &mut near) {
+            Some(text) => put_text(&mut tos, number, text.copy(alloc)?)?,
+            None => put_read_to(alloc, &mut tos, number, message.bytes.as_slice())?,
+        }
     }
     Ok(tos)
 }

@@ -23,6 +23,9 @@ use sip_ledger::{Accounts, Debt, Run};
 use std::alloc::{AllocError, Global};
 use std::marker::Model;
 
+/// What a change of rows comes to: nothing, or that memory was refused.
+pub(crate) type Done = Result<(), AllocError>;
+
 /// Rows of what states owe.
 #[derive(Debug, Drop)]
 pub(crate) enum Rows {
@@ -77,7 +80,7 @@ impl Dues {
     }
 
     /// Puts a row that owes nothing after the others. On an error all is as before.
-    pub(crate) fn push(&mut self) -> Result<(), AllocError>
+    pub(crate) fn push(&mut self) -> Done
         ensures ok { OnOk result (self.new ≡ self.old ++ [] ∷ []) }
         ensures err { OnErr result (self.new ≡ self.old) }
     {
@@ -86,7 +89,7 @@ impl Dues {
     }
 
     /// Puts a row that owes what this one does after the others. On an error all is as before.
-    pub(crate) fn push_copy(&mut self, row: usize) -> Result<(), AllocError>
+    pub(crate) fn push_copy(&mut self, row: usize) -> Done
         requires { row < length self.old }
         ensures ok { OnOk result (self.new ≡ self.old ++ owed_in self.old row ∷ []) }
         ensures err { OnErr result (self.new ≡ self.old) }
@@ -130,12 +133,7 @@ impl Dues {
 
     /// Puts a copy of each row from `from` up to `to` after the others, except for rows that must send something that is past at
     /// the moment. On an error all is as before.
-    pub(crate) fn push_timely(
-        &mut self,
-        from: usize,
-        to: usize,
-        moment: u64,
-    ) -> Result<(), AllocError>
+    pub(crate) fn push_timely(&mut self, from: usize, to: usize, moment: u64) -> Done
         requires { to ≤ length self.old }
         ensures ok { OnOk result (self.new ≡ self.old ++ filter (is_timely moment) (from_to from to self.old)) }
         ensures err { OnErr result (self.new ≡ self.old) }
@@ -148,13 +146,7 @@ impl Dues {
 
     /// Puts rows after the others: of each row from `from` up to `to` that is timely and has a debt that a send of the message at the moment
     /// pays, one that owes the rest, without what is past. On an error all is as before.
-    pub(crate) fn push_paid(
-        &mut self,
-        from: usize,
-        to: usize,
-        message: u64,
-        moment: u64,
-    ) -> Result<(), AllocError>
+    pub(crate) fn push_paid(&mut self, from: usize, to: usize, message: u64, moment: u64) -> Done
         requires { to ≤ length self.old }
         ensures ok { OnOk result (self.new ≡ self.old ++ paid_rows message moment (from_to from to self.old)) }
         ensures err { OnErr result (self.new ≡ self.old) }
@@ -170,46 +162,35 @@ impl Dues {
         row: usize,
         debt: Debt,
         moment: u64,
-    ) -> Result<(), AllocError>
+    ) -> Done
         requires { row < length self.old }
         ensures ok { OnOk result (self.new ≡ set self.old row (filter (counts_at moment) (owed_in self.old row ++ debt ∷ []))) }
         ensures err { OnErr result (self.new ≡ self.old) }
     {
-        match &mut self.rows {
-            Rows::WithAccounts(accounts) => accounts.gain_and_expire(row, debt, moment)?,
-            Rows::Blank(count) => {
-                let mut accounts = blank(alloc, *count)?;
-                accounts.gain_and_expire(row, debt, moment)?;
-                self.rows = Rows::WithAccounts(Box::new(alloc, accounts)?);
-            }
-        }
+        rows!(&mut self.rows, accounts => accounts.gain_and_expire(row, debt, moment)?, count => {
+            let mut accounts = blank(alloc, *count)?;
+            accounts.gain_and_expire(row, debt, moment)?;
+            self.rows = Rows::WithAccounts(Box::new(alloc, accounts)?);
+        });
         Ok(())
     }
 
     /// Lets each row from `from` on owe one more debt, after its others. On an error the rows before them are as they were.
-    pub(crate) fn gain_each(
-        &mut self,
-        alloc: Global,
-        from: usize,
-        debt: Debt,
-    ) -> Result<(), AllocError>
+    pub(crate) fn gain_each(&mut self, alloc: Global, from: usize, debt: Debt) -> Done
         ensures ok { OnOk result (self.new ≡ take from self.old ++ map (λ owes. owes ++ debt ∷ []) (drop from self.old)) }
         ensures err { OnErr result (take from self.new ≡ take from self.old) }
     {
-        match &mut self.rows {
-            Rows::WithAccounts(accounts) => accounts.gain_each(from, debt)?,
-            Rows::Blank(count) => {
-                let mut accounts = blank(alloc, *count)?;
-                accounts.gain_each(from, debt)?;
-                self.rows = Rows::WithAccounts(Box::new(alloc, accounts)?);
-            }
-        }
+        rows!(&mut self.rows, accounts => accounts.gain_each(from, debt)?, count => {
+            let mut accounts = blank(alloc, *count)?;
+            accounts.gain_each(from, debt)?;
+            self.rows = Rows::WithAccounts(Box::new(alloc, accounts)?);
+        });
         Ok(())
     }
 
     /// Drops those debts of each row from `from` on that may be sent, and whose deadline is below the moment. On an error the rows before
     /// them are as they were.
-    pub(crate) fn expire_each(&mut self, from: usize, moment: u64) -> Result<(), AllocError>
+    pub(crate) fn expire_each(&mut self, from: usize, moment: u64) -> Done
         ensures ok { OnOk result (self.new ≡ take from self.old ++ map (filter (counts_at moment)) (drop from self.old)) }
         ensures err { OnErr result (take from self.new ≡ take from self.old) }
     {
@@ -218,7 +199,7 @@ impl Dues {
 
     /// Drops those debts of the row that may be sent, and whose deadline is below the moment. On an error all is as before.
     #[inline(always)]
-    pub(crate) fn expire(&mut self, row: usize, moment: u64) -> Result<(), AllocError>
+    pub(crate) fn expire(&mut self, row: usize, moment: u64) -> Done
         requires { row < length self.old }
         ensures ok { OnOk result (self.new ≡ set self.old row (filter (counts_at moment) (owed_in self.old row))) }
         ensures err { OnErr result (self.new ≡ self.old) }
@@ -267,12 +248,7 @@ impl Dues {
     }
 
     /// Puts the number of the message of each debt of the row after those in the vector. On an error the vector is as before.
-    pub(crate) fn names(
-        &self,
-        alloc: Global,
-        row: usize,
-        numbers: &mut Vec<u64>,
-    ) -> Result<(), AllocError>
+    pub(crate) fn names(&self, alloc: Global, row: usize, numbers: &mut Vec<u64>) -> Done
         requires { row < length self.now }
         ensures ok { OnOk result (numbers.new.items ≡ numbers.old.items ++ owes_names (owed_in self.now row)) }
         ensures err { OnErr result (numbers.new.items ≡ numbers.old.items) }
@@ -287,7 +263,7 @@ impl Dues {
     }
 
     /// Appends the numbers of the messages that rows owe, each once. On an error the vector is as before.
-    pub(crate) fn names_all(&self, numbers: &mut Vec<u64>) -> Result<(), AllocError>
+    pub(crate) fn names_all(&self, numbers: &mut Vec<u64>) -> Done
         ensures ok { OnOk result (AppendsAll (flat_map owes_names self.now) numbers.old.items numbers.new.items) }
         ensures err { OnErr result (numbers.new.items ≡ numbers.old.items) }
     {

@@ -6,11 +6,11 @@ ghost use Rattle.sip_machine.specs.Owes.{owed_in};
 ghost use Rattle.sip_machine.specs.inner.Turns.{changed_debts};
 ghost use Rattle.sip_machine.specs.inner.Effects.{rested_debts};
 
-use crate::dues::{Dues, Rows};
+use crate::dues::{Done, Dues, Rows};
 use crate::phases::{Change, Turn};
 use sip_ledger::Debt;
 use sip_times::Params;
-use std::alloc::{AllocError, Global};
+use std::alloc::Global;
 
 /// What an event does to a state: a row may lead on, and a sent message may leave the phase as it is. Where neither is so,
 /// the event has no step.
@@ -41,7 +41,7 @@ pub(crate) fn lead(
     change: Change,
     dues: &mut Dues,
     row: usize,
-) -> Result<(), AllocError>
+) -> Done
     requires moment { moment ≤ last_moment }
     requires row { row < length dues.old }
     ensures ok { OnOk result (dues.new ≡ set dues.old row (changed_debts params.now moment change (filter (counts_at moment) (owed_in dues.old row)))) }
@@ -81,7 +81,7 @@ pub(crate) fn lead_each(
     change: Change,
     dues: &mut Dues,
     from: usize,
-) -> Result<(), AllocError>
+) -> Done
     requires { moment ≤ last_moment }
     ensures ok { OnOk result (dues.new ≡ take from dues.old ++ map (λ owes. changed_debts params.now moment change (filter (counts_at moment) owes)) (drop from dues.old)) }
     ensures err { OnErr result (take from dues.new ≡ take from dues.old) }
@@ -111,7 +111,7 @@ fn lead_rows(
     change: Change,
     dues: &mut Dues,
     from: usize,
-) -> Result<(), AllocError>
+) -> Done
     requires { moment ≤ last_moment }
     ensures ok { OnOk result (dues.new ≡ take from dues.old ++ map (λ owes. changed_debts params.now moment change (filter (counts_at moment) owes)) (drop from dues.old)) }
     ensures err { OnErr result (take from dues.new ≡ take from dues.old) }
@@ -126,12 +126,7 @@ fn lead_rows(
 /// as before.
 #[inline(always)]
 #[tactic(auto, using(crate::proofs::debts::DuesEachLemmas::of_blank))]
-pub(crate) fn come_to_rest(
-    moment: u64,
-    rest: Rest,
-    dues: &mut Dues,
-    row: usize,
-) -> Result<(), AllocError>
+pub(crate) fn come_to_rest(moment: u64, rest: Rest, dues: &mut Dues, row: usize) -> Done
     requires { row < length dues.old }
     ensures ok { OnOk result (dues.new ≡ set dues.old row (rested_debts moment rest (owed_in dues.old row))) }
     ensures err { OnErr result (dues.new ≡ dues.old) }

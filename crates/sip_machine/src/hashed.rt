@@ -1,7 +1,8 @@
 //! Texts that are told apart by their hashes first.
-ghost use Rattle.std.specs.Prelude.{◌≡◌, bytes_eq};
+ghost use Rattle.std.specs.Prelude.{◌≡◌, IfOk, bytes_eq};
 ghost use Rattle.sip_machine.specs.inner.Order.{full_hash, hash_of};
 
+use std::alloc::{AllocError, Global};
 use std::hash::{FoldHasher, Hasher};
 use std::marker::Model;
 
@@ -34,6 +35,17 @@ impl Hashed {
     {
         let hash = full_hash(&text);
         Hashed { text, hash }
+    }
+
+    /// A copy of the text with its hash.
+    pub(crate) fn copy(&self, alloc: Global) -> Result<Hashed, AllocError>
+        ensures { IfOk result (λ copy. copy ≡ self.now) }
+    {
+        let text = Vec::from_slice(alloc, self.text())?;
+        Ok(Hashed {
+            text,
+            hash: self.hash,
+        })
     }
 
     /// The text alone.

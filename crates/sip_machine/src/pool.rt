@@ -11,7 +11,7 @@ ghost use Rattle.sip_machine.specs.inner.Pools.{AreFirstOnes, picked, AreMixedWi
 ghost use Rattle.sip_machine.specs.inner.Prints.{ArePrints};
 ghost use Rattle.sip_machine.specs.inner.Effects.{led_by, repaid_at, rests_at, given_by};
 
-use crate::dues::Dues;
+use crate::dues::{Done, Dues};
 use crate::effects::{Effect, Rest, come_to_rest, lead, lead_each};
 use crate::phases::{Phase, Turn};
 use crate::slots::Slots;
@@ -130,7 +130,7 @@ impl<P: Phase> Pool<P> {
     }
 
     /// Puts a copy of the state at the index after the others, which stay as they are.
-    fn push_copy(&mut self, at: usize) -> Result<(), AllocError>
+    fn push_copy(&mut self, at: usize) -> Done
         requires { at < length self.old }
         ensures ok { HoldsAt (λ x. OnOk result (self.new ≡ self.old ++ x ∷ [])) self.old at }
         ensures longer { OnOk result (length self.old < length self.new) }
@@ -280,12 +280,8 @@ impl<P: Phase> Pool<P> {
         let mut at = from;
         while at < self.len() {
             let end = self.run_end(at, self.len());
-            mix(
-                &mut prints,
-                at - from,
-                end - from,
-                hash_of(&self.phases[at]),
-            );
+            let hash = hash_of(&self.phases[at]);
+            mix(&mut prints, at - from, end - from, hash);
             at = end;
         }
         Ok(prints)
@@ -327,13 +323,7 @@ impl<P: Phase> Pool<P> {
 
     /// Leads the state at the index where the row does. On an error all is as before.
     #[inline(always)]
-    pub(crate) fn lead(
-        &mut self,
-        params: &Params,
-        moment: u64,
-        at: usize,
-        turn: Turn<P>,
-    ) -> Result<(), AllocError>
+    pub(crate) fn lead(&mut self, params: &Params, moment: u64, at: usize, turn: Turn<P>) -> Done
         requires moment { moment ≤ last_moment }
         requires at { at < length self.old }
         ensures ok { HoldsAt (λ x. OnOk result (self.new ≡ set self.old at (led_by params.now moment turn x))) self.old at }
@@ -346,12 +336,7 @@ impl<P: Phase> Pool<P> {
     }
 
     /// Leaves the state at the index in its phase, as a sent message does. On an error all is as before.
-    pub(crate) fn come_to_rest(
-        &mut self,
-        moment: u64,
-        at: usize,
-        rest: Rest,
-    ) -> Result<(), AllocError>
+    pub(crate) fn come_to_rest(&mut self, moment: u64, at: usize, rest: Rest) -> Done
         requires { at < length self.old }
         ensures ok { HoldsAt (λ x. OnOk result (self.new ≡ set self.old at (rests_at moment rest x))) self.old at }
         ensures err { OnErr result (self.new ≡ self.old) }
@@ -367,7 +352,7 @@ impl<P: Phase> Pool<P> {
         moment: u64,
         at: usize,
         effect: Effect<P>,
-    ) -> Result<(), AllocError>
+    ) -> Done
         requires moment { moment ≤ last_moment }
         requires at { at < length self.old }
         ensures ok { HoldsAt (λ x. OnOk result (self.new ≡ self.old ++ (option_to_list (given_by params.now moment x effect).0 ++ option_to_list (given_by params.now moment x effect).1))) self.old at }
@@ -385,13 +370,7 @@ impl<P: Phase> Pool<P> {
 
     /// Puts a copy of the state at the index after the others that goes where the row leads, if the event has a row. On an error the copy may
     /// be there, and the others are as before.
-    fn push_led(
-        &mut self,
-        params: &Params,
-        moment: u64,
-        at: usize,
-        turn: Option<Turn<P>>,
-    ) -> Result<(), AllocError>
+    fn push_led(&mut self, params: &Params, moment: u64, at: usize, turn: Option<Turn<P>>) -> Done
         requires moment { moment ≤ last_moment }
         requires at { at < length self.old }
         ensures ok { HoldsAt (λ x. OnOk result (self.new ≡ self.old ++ option_to_list (option_map (λ turn. led_by params.now moment turn x) turn))) self.old at }
@@ -408,12 +387,7 @@ impl<P: Phase> Pool<P> {
 
     /// Puts a copy of the state at the index after the others as a sent message leaves it in its phase, if it does. On an error the copy may
     /// be there, and the others are as before.
-    pub(crate) fn push_rested(
-        &mut self,
-        moment: u64,
-        at: usize,
-        rest: Option<Rest>,
-    ) -> Result<(), AllocError>
+    pub(crate) fn push_rested(&mut self, moment: u64, at: usize, rest: Option<Rest>) -> Done
         requires { at < length self.old }
         ensures ok { HoldsAt (λ x. OnOk result (self.new ≡ self.old ++ option_to_list (option_map (λ rest. rests_at moment rest x) rest))) self.old at }
         ensures before { take (length self.old) self.new ≡ self.old }
@@ -436,7 +410,7 @@ impl<P: Phase> Pool<P> {
         from: usize,
         to: usize,
         turn: Turn<P>,
-    ) -> Result<(), AllocError>
+    ) -> Done
         requires moment { moment ≤ last_moment }
         requires to { to ≤ length self.old }
         ensures ok { OnOk result (self.new ≡ self.old ++ map (led_by params.now moment turn) (filter (λ x. is_timely moment x.owes) (from_to from to self.old))) }
@@ -464,7 +438,7 @@ impl<P: Phase> Pool<P> {
         from: usize,
         to: usize,
         message: u64,
-    ) -> Result<(), AllocError>
+    ) -> Done
         requires from { from < length self.old }
         requires to { to ≤ length self.old }
         requires same { HoldsAt (λ first. All (λ x. x.phase ≡ first.phase) (from_to from to self.old)) self.old from }
@@ -500,7 +474,7 @@ fn keep_phases<P: Phase>(phases: &mut Vec<P>, rows: &[usize])
 
 /// Puts the phase after the others `count` times. On an error the phases are as before.
 #[tactic(auto, using(std::proofs::lemmas::List::take_all))]
-fn push_phases<P: Phase>(phases: &mut Vec<P>, count: usize, phase: P) -> Result<(), AllocError>
+fn push_phases<P: Phase>(phases: &mut Vec<P>, count: usize, phase: P) -> Done
     ensures ok { OnOk result (phases.new.items ≡ phases.old.items ++ replicate count phase) }
     ensures err { OnErr result (phases.new.items ≡ phases.old.items) }
 {

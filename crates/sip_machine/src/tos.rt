@@ -4,7 +4,7 @@ ghost use Rattle.std.specs.List.{HoldsAt};
 ghost use Rattle.sip_machine.specs.declared.tos.To.{To};
 ghost use Rattle.sip_machine.specs.inner.Tos.{AreUnder, IsChanged, count_between};
 
-use crate::hashed::{Hashed, hash};
+use crate::hashed::Hashed;
 use sip_ledger::Index;
 use std::alloc::{AllocError, Global};
 use std::marker::Model;
@@ -22,16 +22,11 @@ pub(crate) struct Tos {
     list: Vec<To>,
     /// Where the Tos of all messages are to stand here: the numbers of the messages, under the hashes of their Tos.
     hashes: Option<Index>,
-    /// How many Tos of each call came since some went, counted anew after each `MANY`. Calls of one slot are counted together.
-    calls: [u8; SLOTS],
 }
 
-/// How many calls are told apart where Tos are counted. The counts take as many bytes.
-const SLOTS: usize = 1024;
-
-/// Where this many Tos of one call come, those of all messages are to stand here: then no message without one lies between these, and the response of an ACK
-/// is found without a look at each message that is owed. Where fewer are left, no hashes are kept. This is the most that a count of a call, which is a byte, can hold.
-const MANY: u8 = u8::MAX;
+/// Where a search for a To looks at this many messages, one by one, the Tos of all messages are to stand here: then no message without one lies
+/// between these, and the response of an ACK is found without a look at each message that is owed. Where fewer are left, no hashes are kept.
+pub(crate) const MANY: usize = 255;
 
 impl Model for Tos {
     ghost use Rattle.std.specs.Prelude.{◌<◌, List, AllPairs};
@@ -54,26 +49,12 @@ impl Tos {
         Tos {
             list: Vec::new(alloc),
             hashes: None,
-            calls: [0; SLOTS],
         }
     }
 
     /// Whether the Tos of all messages are to stand here.
     pub(crate) fn takes_all(&self) -> bool {
         self.hashes.is_some()
-    }
-
-    /// Counts a To of the call. It tells whether the Tos of all messages are to be put here now.
-    pub(crate) fn begins_with_all(&mut self, call: &[u8]) -> bool
-        ensures { self.new ≡ self.old }
-    {
-        if self.takes_all() {
-            return false;
-        }
-        let slot = hash(call) as usize % SLOTS;
-        let count = self.calls[slot].saturating_add(1) % MANY;
-        self.calls[slot] = count;
-        count == 0
     }
 
     /// Puts these Tos, which are those of all messages, in the place of those that are here.
@@ -134,7 +115,6 @@ impl Tos {
         ensures { All (λ to. Contains self.old to × Contains numbers.now to.number) self.new }
     {
         self.list.retain(|to| is_among(numbers, to.number));
-        self.calls = [0; SLOTS];
         if self.hashes.is_none() {
             return;
         }
@@ -207,7 +187,7 @@ fn drop_note(hashes: &mut Option<Index>, hash: u64, number: u64)
 fn hashes_of(alloc: Global, list: &[To]) -> Option<Index>
     ensures { AreUnder result list.now }
 {
-    if list.len() < usize::from(MANY) {
+    if list.len() < MANY {
         return None;
     }
     let mut hashes = Some(Index::new(alloc));

@@ -1,17 +1,10 @@
 -- An answer stays an answer where the writer keeps its bytes.
-use Rattle.std.proofs.Common.{◌≡◌, ◌∙◌, ℕ, List, Option, None, Some, IfSome, subst}
-use Rattle.std.specs.Io.KnownBytes.{Appends, Keeps}
+use Rattle.std.proofs.Common.{ℕ, List, Option, None, Some}
+use Rattle.std.proofs.KnownBytes.{Appends-kept}
+use Rattle.std.specs.Io.KnownBytes.{Keeps}
 use Rattle.sip_standard.specs.declared.asked.Asked.{Asked}
 use Rattle.sip_standard.specs.declared.asked.Asked.TheVariants.{Input, Check, Show, States}
-use Rattle.sip_standard.specs.Answers.{IsJudged, IsShown, IsListed, IsAnswer, IsAnswerTo}
-
--- bytes that were appended are appended still, where the writer keeps all its bytes
--- a is what was written before the bytes, b after them, and c later
-Appends-kept : (a b c : Option (List ℕ)) (bytes : List ℕ) → Appends a b bytes → Keeps b c → Appends a c bytes
-Appends-kept None b c bytes appended kept = tt
-Appends-kept (Some x) None c bytes appended kept = absurd appended
-Appends-kept (Some x) (Some y) None bytes appended kept = absurd kept
-Appends-kept (Some x) (Some y) (Some z) bytes appended kept = kept ∙ appended
+use Rattle.sip_standard.specs.Answers.{IsJudged, IsShown, IsListed, IsAnswer}
 
 -- In the lemmas on answers `it` is the answer: a is what was written before it, b after it, and c later.
 
@@ -35,9 +28,3 @@ IsAnswer-kept Input input a b c status it kept = IsJudged-kept input a b c statu
 IsAnswer-kept (Check path) input a b c status it kept = IsJudged-kept input a b c status it kept
 IsAnswer-kept (Show path) input a b c status it kept = IsShown-kept input a b c status it kept
 IsAnswer-kept (States path entry) input a b c status it kept = IsListed-kept entry input a b c status it kept
-
--- an answer to the words that were given is an answer to the words that are known, where they are the same
-pub IsAnswerTo-known : (known : Option (List (List ℕ))) (words : List (List ℕ)) (input : Option (List ℕ)) (file : List ℕ → Option (List ℕ)) (before after : Option (List ℕ)) (status : ℕ)
-    → IfSome known (λ theirs. words ≡ theirs) → IsAnswerTo words input file before after status → IfSome known (λ theirs. IsAnswerTo theirs input file before after status)
-IsAnswerTo-known None words input file before after status same it = tt
-IsAnswerTo-known (Some theirs) words input file before after status same it = subst (λ them. IsAnswerTo them input file before after status) same it

@@ -1,41 +1,22 @@
--- How the program ends: its status, and what it tells on the standard error. In the definitions `before` and `after` are what was written to the output
--- before the run and after it, and the words, the input and the files are those of the system; each is None where it is not known.
-use Rattle.std.specs.Prelude.{◌≡◌, ℕ, Bool, true, false, List, [], Option, None, IfSome, Result, Ok, Err, ⊤}
+-- How a program ends: its status, and what it tells on the standard error. `F` is the type of its failures, and a run ends with a status or one of these.
+use Rattle.std.specs.Prelude.{◌≡◌, ℕ, Bool, false, List, [], Option, Result, Ok, Err, MatchResult}
 use Rattle.std.specs.Io.KnownBytes.{Appends}
-use Rattle.sip_standard.specs.declared.failure.Failure.{Failure}
-use Rattle.sip_standard.specs.declared.failure.Failure.TheVariants.{Read, Write, Memory, Usage}
-use Rattle.sip_standard.specs.Answers.{IsAnswerTo}
-use Rattle.sip_standard.specs.Asked.{IsAskedBy}
-use Rattle.sip_program.specs.Failures.{status_without}
-use Rattle.sip_standard.specs.Failures.{line_of}
 
 -- the status of an answer, or the status that says why there is none
-abbrev pub status_at_end : Result ℕ Failure → ℕ
-status_at_end (Ok status) = status
-status_at_end (Err failure) = status_without failure
+abbrev pub status_at_end : {F : Type 0} → (status_without : F → ℕ) → Result ℕ F → ℕ
+status_at_end status_without (Ok status) = status
+status_at_end status_without (Err failure) = status_without failure
 
--- what is told of how a run ends: nothing where it has an answer, and else why it has none
-abbrev pub told_at_end : Result ℕ Failure → List ℕ
-told_at_end (Ok status) = []
-told_at_end (Err failure) = line_of failure
-
--- why there is no answer to these words: what is read or written has failed, no memory is had, or they ask for nothing
-abbrev pub IsCause : (words : Option (List (List ℕ))) (has_read_failed has_write_failed : Bool) → Failure → Type 0
-IsCause words has_read_failed has_write_failed Read = has_read_failed ≡ true
-IsCause words has_read_failed has_write_failed Write = has_write_failed ≡ true
-IsCause words has_read_failed has_write_failed Memory = ⊤
-IsCause words has_read_failed has_write_failed Usage = IfSome words (λ known. IsAskedBy known None)
-
--- what a run comes to: what the words ask for is written of its log, or there is a cause why it is not
-abbrev pub IsRun : (words : Option (List (List ℕ))) (input : Option (List ℕ)) (file : List ℕ → Option (List ℕ)) (before after : Option (List ℕ))
-    (has_read_failed has_write_failed : Bool) → Result ℕ Failure → Type 0
-IsRun words input file before after has_read_failed has_write_failed (Ok status) = IfSome words (λ known. IsAnswerTo known input file before after status)
-IsRun words input file before after has_read_failed has_write_failed (Err failure) = IsCause words has_read_failed has_write_failed failure
+-- what is told of how a run ends: nothing where it has an answer, and else the line of why it has none
+abbrev pub told_at_end : {F : Type 0} → (line_of : F → List ℕ) → Result ℕ F → List ℕ
+told_at_end line_of (Ok status) = []
+told_at_end line_of (Err failure) = line_of failure
 
 -- the program ends with the status of its run, and has told why there is no answer, unless the standard error has failed
-pub record IsEnd (words : Option (List (List ℕ))) (input : Option (List ℕ)) (file : List ℕ → Option (List ℕ)) (before after : Option (List ℕ))
-    (has_read_failed has_write_failed : Bool) (errors_before errors_after : Option (List ℕ)) (has_telling_failed : Bool) (status : ℕ) : Type 0 where
-  pub ended : Result ℕ Failure
-  pub is_run : IsRun words input file before after has_read_failed has_write_failed ended
-  pub ends : status ≡ status_at_end ended
-  pub told : has_telling_failed ≡ false → Appends errors_before errors_after (told_at_end ended)
+-- `is_answer` says which status an answer has, and `is_cause` why there can be none; the standard error has got `before` and then `after`, where that is known
+pub record IsEnd {F : Type 0} (is_answer : ℕ → Type 0) (is_cause : F → Type 0) (status_without : F → ℕ) (line_of : F → List ℕ)
+    (before after : Option (List ℕ)) (has_telling_failed : Bool) (status : ℕ) : Type 0 where
+  pub ended : Result ℕ F
+  pub is_run : MatchResult ended is_answer is_cause
+  pub ends : status ≡ status_at_end status_without ended
+  pub told : has_telling_failed ≡ false → Appends before after (told_at_end line_of ended)

@@ -1,4 +1,4 @@
 pub mod Ending
-pub mod EntryNumber
 pub mod Failures
 pub mod Reading
+pub mod WordFor

@@ -1,7 +1,7 @@
 //! What the words that the program is given ask for.
-ghost use Rattle.std.specs.Prelude.{map, string_bytes};
-ghost use Rattle.sip_standard.specs.Asked.{IsAskedBy};
-ghost use Rattle.sip_program.specs.EntryNumber.{IsNumberFor};
+ghost use Rattle.std.specs.Prelude.{decimal, map, string_bytes};
+ghost use Rattle.sip_standard.specs.Asked.{IsAskedBy, IsEntryNumber};
+ghost use Rattle.sip_program.specs.WordFor.{IsWordFor};
 
 use itoa::Buffer;
 use sip_standard::Asked;
@@ -14,7 +14,7 @@ const MOST: u64 = 1_000_000;
 
 /// The number of an entry: 1 to 1,000,000, without leading zeros.
 fn entry_number(word: &str) -> Option<u64>
-    ensures { IsNumberFor word.now result }
+    ensures { IsWordFor IsEntryNumber decimal word.now result }
 {
     let Ok(number) = word.parse::<u64>() else {
         return None;

@@ -1,7 +1,9 @@
 //! How the program ends.
 ghost use Rattle.std.specs.Prelude.{◌≡◌, false};
 ghost use Rattle.std.specs.Io.KnownBytes.{Appends};
+ghost use Rattle.sip_standard.specs.Failures.{line_of};
 ghost use Rattle.sip_program.specs.Ending.{status_at_end, told_at_end};
+ghost use Rattle.sip_program.specs.Failures.{status_without};
 
 use crate::failure::status_without;
 use sip_log::Sink;
@@ -9,8 +11,8 @@ use sip_standard::Failure;
 
 /// Tells why there is no answer, if there is none. It answers the status that the program ends with, also where nothing can be told.
 pub fn end<E: Sink>(ended: Result<u8, Failure>, errors: &mut E) -> u8
-    ensures status { result ≡ status_at_end ended }
-    ensures told { E.has_failed errors.new ≡ false → Appends (E.written errors.old) (E.written errors.new) (told_at_end ended) }
+    ensures status { result ≡ status_at_end status_without ended }
+    ensures told { E.has_failed errors.new ≡ false → Appends (E.written errors.old) (E.written errors.new) (told_at_end line_of ended) }
 {
     match ended {
         Ok(status) => status,

@@ -3,7 +3,8 @@ ghost use Rattle.std.specs.Prelude.{◌≡◌, None, false, true, IfSome, OnOk, 
 ghost use Rattle.sip_standard.specs.Answers.{IsAnswer, IsAnswerTo, log_for};
 ghost use Rattle.sip_standard.specs.Asked.{IsAskedBy};
 ghost use Rattle.sip_program.specs.Ending.{IsEnd};
-ghost use Rattle.sip_program.specs.Failures.{Blames};
+ghost use Rattle.sip_program.specs.Failures.{Blames, IsCause, status_without};
+ghost use Rattle.sip_standard.specs.Failures.{line_of};
 ghost use Rattle.sip_standard.specs.Sent.{sent};
 ghost use Rattle.sip_standard.specs.declared.failure.Failure.TheVariants.{Read, Usage, Write};
 
@@ -83,8 +84,8 @@ pub fn program<S: System, W: Write + Drop, E: Sink>(
     errors: &mut E,
 ) -> u8
     requires { S.has_failed system.old ≡ false }
-    ensures { IsEnd (S.words system.old) (S.left system.old) (S.file system.old) (⟦<Output<W> as Sink>⟧.written output.old) (sent W.contents output.new)
-        (S.has_failed system.new) (⟦<Output<W> as Sink>⟧.has_failed output.new)
+    ensures { IsEnd (λ status. IfSome (S.words system.old) (λ words. IsAnswerTo words (S.left system.old) (S.file system.old) (⟦<Output<W> as Sink>⟧.written output.old) (sent W.contents output.new) status))
+        (IsCause (IfSome (S.words system.old) (λ words. IsAskedBy words None)) (S.has_failed system.new) (⟦<Output<W> as Sink>⟧.has_failed output.new)) status_without line_of
         (E.written errors.old) (E.written errors.new) (E.has_failed errors.new) result }
 {
     end(run(alloc, system, output), errors)

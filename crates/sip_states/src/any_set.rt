@@ -14,18 +14,18 @@ use std::alloc::{AllocError, Global};
 /// The states in which the runs of one of the machines of RFC 3261 section 17 can stand.
 #[derive(Debug, Drop)]
 pub enum AnySet {
-    /// The INVITE client of section 17.1.1, with the accepted state of RFC 6026.
+    /// The INVITE client transaction (RFC 3261 section 17.1.1, with the accepted state of RFC 6026).
     InviteClient(StateSet<sip_machine::InviteClient>),
-    /// The non-INVITE client of section 17.1.2.
-    PlainClient(StateSet<sip_machine::PlainClient>),
-    /// The INVITE server of section 17.2.1, with the accepted state of RFC 6026.
-    InviteServer(StateSet<sip_machine::InviteServer>),
-    /// The non-INVITE server of section 17.2.2.
-    PlainServer(StateSet<sip_machine::PlainServer>),
-    /// The INVITE client of section 17.1.1, without the accepted state of RFC 6026.
+    /// The INVITE client transaction of RFC 3261 section 17.1.1, without the accepted state of RFC 6026.
     InviteClient3261(StateSet<sip_machine::InviteClient3261>),
-    /// The INVITE server of section 17.2.1, without the accepted state of RFC 6026.
+    /// The INVITE server transaction of RFC 3261 section 17.2.1, without the accepted state of RFC 6026.
     InviteServer3261(StateSet<sip_machine::InviteServer3261>),
+    /// The non-INVITE client transaction (RFC 3261 section 17.1.2).
+    PlainClient(StateSet<sip_machine::PlainClient>),
+    /// The non-INVITE server transaction (RFC 3261 section 17.2.2).
+    PlainServer(StateSet<sip_machine::PlainServer>),
+    /// The INVITE server transaction (RFC 3261 section 17.2.1, with the accepted state of RFC 6026).
+    InviteServer(StateSet<sip_machine::InviteServer>),
 }
 
 /// Gives the macro `$then` what stands in brackets, and each machine with its keys: their role, whether their method is INVITE, and

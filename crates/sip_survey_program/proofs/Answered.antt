@@ -1,5 +1,6 @@
 -- What is written of a log is the survey that is asked for, with its status.
 use Rattle.std.proofs.Common.{◌≡◌, ℕ, List, Option, Some, None, IfSome, IfOk, Result, Ok, Err, subst}
+use Rattle.std.proofs.lemmas.Option.{IfSome_then}
 use Rattle.std.specs.Io.KnownBytes.{Appends}
 use Rattle.sip_part.specs.Part.{PartOf}
 use Rattle.sip_verdict.specs.declared.finding.Finding.{Finding}
@@ -27,11 +28,11 @@ pub answered_to : {E : Type 0} (known : Option (List (List ℕ))) (words : List 
     → IfSome known (λ told. words ≡ told) → IsAskedBy words (Some asked) → now ≡ input → after_words ≡ file
     → IfOk r (IsSurveyed asked.forget asked.part (log_for asked.log now after_words) before after) → IfOk r (λ status. IfSome known (λ told. IsAnswerTo told input file before after status))
 answered_to known words asked (Err e) now input after_words file before after told asks same files written = tt
-answered_to None words asked (Ok status) now input after_words file before after told asks same files written = tt
 -- `told` says that the words are those that are known, `same` that the input is the one of the system, and `files` that its files are
-answered_to (Some known) words asked (Ok status) now input after_words file before after told asks same files written = record {
-  asked = asked;
-  is_asked = subst (λ w. IsAskedBy w (Some asked)) told asks;
-  is = subst (λ f. IsSurveyed asked.forget asked.part (log_for asked.log input f) before after status) files
-      (subst (λ i. IsSurveyed asked.forget asked.part (log_for asked.log i after_words) before after status) same written);
-}
+answered_to known words asked (Ok status) now input after_words file before after told asks same files written =
+    IfSome_then known told (λ theirs is. record {
+      asked = asked;
+      is_asked = subst (λ w. IsAskedBy w (Some asked)) is asks;
+      is = subst (λ f. IsSurveyed asked.forget asked.part (log_for asked.log input f) before after status) files
+          (subst (λ i. IsSurveyed asked.forget asked.part (log_for asked.log i after_words) before after status) same written);
+    })

@@ -1,13 +1,13 @@
 -- The surveys of all parts of a log find together what the survey of the whole log finds.
-use Rattle.std.proofs.Common.{◌≡◌, ◌≢◌, ◌↔◌, ◌<◌, ◌≤◌, ◌+◌, ◌%◌, inl, inr, ℕ, Bool, true, false, Some, None, MatchOption, List, [], ◌∷◌, ◌++◌, All, Contains, length, if◌then◌else◌, refl, sym, ap, ◌∙◌, subst, arith, append_assoc, append-nil}
+use Rattle.std.proofs.Common.{◌≡◌, ◌≢◌, ◌↔◌, ◌<◌, ◌+◌, ◌%◌, inl, inr, ℕ, Bool, true, false, Some, None, MatchOption, List, [], ◌∷◌, ◌++◌, All, Contains, length, if◌then◌else◌, refl, sym, ap, ◌∙◌, subst, arith, append_assoc, append-nil}
 use Rattle.std.proofs.lemmas.Bool.{eqb-true, eq-eqb}
-use Rattle.std.proofs.lemmas.List.Elements.{All-contains, All-head, Contains-append_right, filter_passes}
+use Rattle.std.proofs.lemmas.List.Elements.{All-contains, Contains-append_right, filter_passes}
 use Rattle.sip_standard.specs.declared.action.Action.{Action}
 use Rattle.sip_standard.specs.declared.action.Action.TheVariants.{Sent, Received, Failed, Mark, Restart}
 use Rattle.sip_standard.specs.declared.fault.Fault.{Fault}
 use Rattle.sip_standard.specs.Key.{KeyParts}
 use Rattle.sip_standard.specs.LogEntry.{Item}
-use Rattle.sip_standard.specs.LogSays.{LogEnd, LogSays}
+use Rattle.sip_standard.specs.LogSays.{LogEnd}
 use Rattle.sip_standard.specs.Observation.{Observation, direction_of}
 use Rattle.sip_standard.specs.Seen.{AreSeen}
 use Rattle.sip_standard.specs.Times.{Times}
@@ -18,7 +18,7 @@ use Rattle.sip_part.proofs.Told.{one_told}
 use Rattle.sip_verdict.specs.declared.finding.Finding.{Finding}
 use Rattle.sip_verdict.specs.declared.finding.Finding.TheVariants.{Malformed, Breach, Undecided}
 use Rattle.sip_verdict.specs.declared.survey_end.SurveyEnd.{SurveyEnd}
-use Rattle.sip_verdict.specs.SurveyOf.{IsFoundAt, IsSurveyAfter, IsSurveyOf}
+use Rattle.sip_verdict.specs.SurveyOf.{IsSurveyAfter, IsSurveyOf}
 use Rattle.sip_verdict.specs.SurveyLaws.{Names, StaysAt}
 use Rattle.sip_verdict.specs.SurveyParts.{IsPartItem, IsPartLog, IsPartSurveyOf}
 use Rattle.sip_verdict.specs.SurveyText.{AreEntriesOf}

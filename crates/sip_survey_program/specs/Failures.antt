@@ -1,5 +1,7 @@
--- The failures of the survey program: the status and the line of each, and when each can come.
-use Rattle.std.specs.Prelude.{◌≡◌, ℕ, Bool, true, ⊤, List, codes}
+-- The failures of the survey program: what each stands for, and its line.
+use Rattle.std.specs.Prelude.{ℕ, List, codes}
+use Rattle.sip_standard.specs.declared.failure.Failure.{Failure as SiptraceFailure}
+use Rattle.sip_standard.specs.declared.failure.Failure.TheVariants as siptrace
 use Rattle.sip_verdict.specs.declared.survey_error.SurveyError.{SurveyError}
 use Rattle.sip_verdict.specs.declared.survey_error.SurveyError.TheVariants as surveying
 use Rattle.sip_survey_program.specs.declared.failure.Failure.{Failure}
@@ -11,12 +13,12 @@ failure_of surveying.Read = Read
 failure_of surveying.Write = Write
 failure_of surveying.Memory = Memory
 
--- the status of the program where it did not reach its last line: 5 where its words ask for nothing, and else 4
-abbrev pub status_without : Failure → ℕ
-status_without Read = 4
-status_without Write = 4
-status_without Memory = 4
-status_without Usage = 5
+-- the failure of `siptrace` of the same name, which has the same status and the same causes
+abbrev pub as_siptrace : Failure → SiptraceFailure
+as_siptrace Read = siptrace.Read
+as_siptrace Write = siptrace.Write
+as_siptrace Memory = siptrace.Memory
+as_siptrace Usage = siptrace.Usage
 
 -- the line on the standard error that tells the failure
 abbrev pub line_of : Failure → List ℕ
@@ -24,10 +26,3 @@ line_of Read = codes "sipsurvey: cannot read\n"
 line_of Write = codes "sipsurvey: cannot write\n"
 line_of Memory = codes "sipsurvey: out of memory\n"
 line_of Usage = codes "sipsurvey: usage: sipsurvey [--forget MILLISECONDS] [--part K/N] [FILE]\n"
-
--- the failure can come of surveying a log: `Read` where the reader has failed, `Write` where the writer has, `Memory` at any time, and `Usage` never
-abbrev pub Blames : (has_read_failed has_write_failed : Bool) → Failure → Type 0
-Blames has_read_failed has_write_failed Read = has_read_failed ≡ true
-Blames has_read_failed has_write_failed Write = has_write_failed ≡ true
-Blames has_read_failed has_write_failed Memory = ⊤
-Blames has_read_failed has_write_failed Usage = ⊥

@@ -1,6 +1,5 @@
 pub mod Answers
 pub mod Asked
-pub mod Ending
 pub mod Failures
 pub mod PartWords
 pub mod Status

@@ -1,9 +1,10 @@
-//! Why the program ends before its last line.
+//! Why the program ends before its last line. This is not the `Failure` of `sip_standard`, since each says how its own program is used.
 ghost use Rattle.std.specs.Prelude.{◌≡◌, ◌≢◌};
 ghost use Rattle.std.specs.IoError.{error_kind};
 ghost use Rattle.std.specs.declared.io.ErrorKind.TheVariants.{OutOfMemory};
 ghost use Rattle.sip_survey_program.specs.declared.failure.Failure.TheVariants.{Memory, Read, Write};
-ghost use Rattle.sip_survey_program.specs.Failures.{failure_of, line_of, status_without};
+ghost use Rattle.sip_program.specs.Failures.{status_without};
+ghost use Rattle.sip_survey_program.specs.Failures.{as_siptrace, failure_of, line_of};
 
 use sip_verdict::SurveyError;
 use std::alloc::AllocError;
@@ -66,7 +67,7 @@ impl From<SurveyError> for Failure {
 
 /// The status that the program ends with where it does not reach its last line.
 pub fn status_without(failure: &Failure) -> u8
-    ensures { result ≡ status_without failure.now }
+    ensures { result ≡ status_without (as_siptrace failure.now) }
 {
     match failure {
         Failure::Read | Failure::Write | Failure::Memory => 4,

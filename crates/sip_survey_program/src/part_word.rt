@@ -1,12 +1,14 @@
 //! The word for a part of a log.
-ghost use Rattle.sip_survey_program.specs.PartWords.{IsNumberFor, IsPartBetween, IsPartFor};
+ghost use Rattle.std.specs.Prelude.{◌<◌, ◌^◌, decimal};
+ghost use Rattle.sip_program.specs.WordFor.{IsWordFor};
+ghost use Rattle.sip_survey_program.specs.PartWords.{IsPart, IsPartBetween, part_word};
 
 use itoa::Buffer;
 use sip_part::Part;
 
 /// The number that a word is: below 2^32, and without a leading zero. None where the word is no such number.
 pub(crate) fn number_of(word: &str) -> Option<u32>
-    ensures { IsNumberFor word.now result }
+    ensures { IsWordFor (λ number. number < 2 ^ 32) decimal word.now result }
 {
     let Ok(number) = word.parse::<u32>() else {
         return None;
@@ -28,7 +30,7 @@ fn part_between(number: &str, count: &str) -> Option<Part>
 
 /// The part that a word names: `K/N` names part K of N, where K is 1 at least and N at most.
 pub fn part_of(word: &str) -> Option<Part>
-    ensures { IsPartFor word.now result }
+    ensures { IsWordFor IsPart part_word word.now result }
 {
     let (number, count) = word.split_once('/')?;
     part_between(number, count)

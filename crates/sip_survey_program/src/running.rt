@@ -6,8 +6,9 @@ ghost use Rattle.sip_verdict.specs.declared.survey_error.SurveyError.TheVariants
 ghost use Rattle.sip_verdict.specs.SurveyText.{SumsUp};
 ghost use Rattle.sip_survey_program.specs.Answers.{IsSurveyFor, IsSurveyed, IsAnswerTo, log_for};
 ghost use Rattle.sip_survey_program.specs.Asked.{IsAskedBy};
-ghost use Rattle.sip_survey_program.specs.Ending.{IsEnd};
-ghost use Rattle.sip_survey_program.specs.Failures.{Blames};
+ghost use Rattle.sip_program.specs.Ending.{IsEnd};
+ghost use Rattle.sip_program.specs.Failures.{Blames, IsCause, status_without};
+ghost use Rattle.sip_survey_program.specs.Failures.{as_siptrace, line_of};
 ghost use Rattle.sip_survey_program.specs.declared.failure.Failure.TheVariants.{Read, Usage, Write};
 
 use crate::asking::asked;
@@ -57,7 +58,7 @@ fn answer<S: System, W: Sink>(
     requires { S.has_failed system.old ≡ false }
     ensures answer { IfOk result (IsSurveyed asked.entry.forget asked.entry.part (log_for asked.entry.log (S.left system.old) (S.file system.old)) (W.written writer.old) (W.written writer.new)) }
     ensures fine { OnOk result ((S.has_failed system.new ≡ false) × (W.has_failed writer.new ≡ W.has_failed writer.old)) }
-    ensures err { IfErr result (Blames (S.has_failed system.new) (W.has_failed writer.new)) }
+    ensures err { IfErr result (λ failure. Blames (S.has_failed system.new) (W.has_failed writer.new) (as_siptrace failure)) }
 {
     // The log is the standard input, unless the words name a file, which is opened in its place.
     let seed = system.seed().map_err(read_failure)?;
@@ -92,9 +93,9 @@ pub fn program<S: System, W: Sink, E: Sink>(
     errors: &mut E,
 ) -> u8
     requires { S.has_failed system.old ≡ false }
-    ensures { IsEnd (S.words system.old) (S.left system.old) (S.file system.old) (W.written output.old) (W.written output.new)
-        (S.has_failed system.new) (W.has_failed output.new)
-        (E.written errors.old) (E.written errors.new) (E.has_failed errors.new) result }
+    ensures { IsEnd (λ status. IfSome (S.words system.old) (λ words. IsAnswerTo words (S.left system.old) (S.file system.old) (W.written output.old) (W.written output.new) status))
+        (λ failure. IsCause (IfSome (S.words system.old) (λ words. IsAskedBy words None)) (S.has_failed system.new) (W.has_failed output.new) (as_siptrace failure))
+        (λ failure. status_without (as_siptrace failure)) line_of (E.written errors.old) (E.written errors.new) (E.has_failed errors.new) result }
 {
     end(run(alloc, system, output), errors)
 }

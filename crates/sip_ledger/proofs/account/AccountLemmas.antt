@@ -1,6 +1,6 @@
 -- Accounts stay accounts, and owe what they owed, while gains and strikes grow, are let go or are dropped.
-use Rattle.sip_ledger.proofs.Words.{common_steps, max, min, ◌≡◌, ℕ, ◌<◌, ◌≤◌, ◌&&◌, true, false, List, [], ◌∷◌, ◌++◌, length, take, drop, get_or, set, append-nil, refl, sym, ap, ◌∙◌, subst, arith, nat_tests, All, nat_le, cases_eq, cases_lt, le-leb, le-ltb, lt-leb, true≢false, false_from_ne_true, and-false, and-true, drop-map, get_or_append_left, get_or-map, get_or-take, length-map, length-take, length-take-le, map-set, take-map, take-take, All-cons, All-drop, All-get_or, All-head, All-nil, All-set, All-tail, All-take, All-weaker, Debt, Account, Gains, Strike, debts_print, AreAccounts, AreGains, AreSameGains, IsAccount, IsDropped, IsGain, IsUndropped, IsLetGo, KeepsAccounts, account_debts, accounts_debts, entries_of, entry_at, is_gone, is_left, is_struck, must_at, owes_at, holds}
-use Rattle.sip_ledger.proofs.debts.ListedLemmas.{back-none, front, listed-same, listed-none, parts, back}
+use Rattle.sip_ledger.proofs.Words.{◌+◌, common_steps, max, min, ◌≡◌, ℕ, ◌<◌, ◌≤◌, ◌&&◌, true, false, List, [], ◌∷◌, length, take, drop, get_or, refl, sym, ap, ◌∙◌, subst, arith, nat_tests, All, nat_le, cases_eq, cases_lt, le-leb, le-ltb, lt-leb, true≢false, false_from_ne_true, and-false, and-true, drop-map, get_or_append_left, get_or-map, length-map, length-take, take-map, take-take, All-cons, All-drop, All-get_or, All-head, All-nil, All-tail, All-take, All-weaker, Debt, Account, Gains, Strike, debts_print, AreAccounts, AreGains, AreSameGains, IsAccount, IsDropped, IsGain, IsLetGo, KeepsAccounts, account_debts, accounts_debts, entries_of, entry_at, is_left, is_struck, must_at, owes_at, holds}
+use Rattle.sip_ledger.proofs.debts.ListedLemmas.{listed-same, listed-none}
 use Rattle.sip_ledger.proofs.gains.LeftLemmas.{entries_long, left-kept, listed-alike, owed-left, left-as}
 
 -- the debts of an account stay when strikes are put after the others
@@ -30,14 +30,6 @@ pub kept-all : (gains : Gains) (old new : List Strike) (rows : List Account) →
     All (IsAccount gains new) rows × (accounts_debts gains new rows ≡ accounts_debts gains old rows)
 kept-all gains old new rows kept each =
     each-stays gains gains old new rows (All-weaker (IsAccount gains old) (Stays gains gains old new) (λ a is. (kept-account gains old new a kept is, kept-debts gains old new a kept is.last)) rows each)
-
--- where one of the accounts is replaced, and the strikes may have grown, all are accounts, and the others owe what they owed
-pub changed : (gains : Gains) (old new : List Strike) (rows : List Account) (row : ℕ) (a : Account) → take (length old) new ≡ old → AreAccounts gains old rows →
-    IsAccount gains new a →
-    AreAccounts gains new (set rows row a) × (accounts_debts gains new (set rows row a) ≡ set (accounts_debts gains old rows) row (account_debts gains new a))
-unfolding accounts_debts
-changed gains old new rows row a kept are is =
-    grind (arith, kept-all gains old new rows kept, All-set (IsAccount gains new) rows row a is, map-set)
 
 -- two accounts with the same `soft` must send the same gains
 pub soft-must : (gains : Gains) (a b : Account) (k : ℕ) → b.soft ≡ a.soft → must_at gains b k ≡ must_at gains a k
@@ -69,19 +61,15 @@ past-end gains strikes a k past = grind (arith, le-ltb, and-false)
 pub owed-within : (gains : Gains) (strikes : List Strike) (a : Account) (k : ℕ) → owes_at gains strikes a k ≡ true → k < a.end
 owed-within gains strikes a k is = grind (arith, nat_tests, cases_lt, true≢false, past-end)
 
--- where an account owes something, each gain from its start on is kept
-pub kept-passed : {gains : Gains} {strikes : List Strike} {a : Account} (k : ℕ) → AreGains gains → IsAccount gains strikes a → a.start < a.end → a.start ≤ k →
-    k < length (entries_of gains) → IsUndropped gains k
-kept-passed {gains} {strikes} {a} k are is some low high = grind (arith, nat_tests, left-kept, owed-left, entries_long)
-
--- each gain from the start of an account up to its end is kept
-pub kept-from : {gains : Gains} {strikes : List Strike} {a : Account} (k : ℕ) → AreGains gains → IsAccount gains strikes a → a.start ≤ k → k < a.end → IsUndropped gains k
-kept-from k are is low high = kept-passed k are is (omega (arith, low, high)) low (omega (arith, high, is.end))
+-- what was gained from the start of an account up to its end is kept, where it owes something
+pub kept-start : (gains : Gains) (strikes : List Strike) (a : Account) → AreGains gains → IsAccount gains strikes a → a.start < a.end →
+    (gains.end ≤ a.start + length gains.entries.items) × (a.end ≤ gains.end)
+kept-start gains strikes a are is some = grind (arith, nat_tests, left-kept, owed-left, entries_long)
 
 -- where an entry is the same among old and new gains, and is left in both or in neither, an account owes it in both or in neither
 owes-over : (old new : Gains) (strikes : List Strike) (a : Account) (k : ℕ) → entry_at (entries_of new) k ≡ entry_at (entries_of old) k → is_left new k ≡ is_left old k →
     owes_at new strikes a k ≡ owes_at old strikes a k
-unfolding owes_at is_gone
+unfolding owes_at
 owes-over old new strikes a k entry left = grind (arith, nat_tests)
 
 -- an account owes over the new gains what it owes over the old ones
@@ -94,11 +82,8 @@ over-debts : (old new : Gains) (strikes : List Strike) (a : Account) → length 
     OwesAlike old new strikes a → account_debts new strikes a ≡ account_debts old strikes a
 unfolding account_debts must_at
 over-debts old new strikes a long end alike =
-    let n = length (entries_of old) in
-    let short = length-take-le n (entries_of new) long in
-    let none : back (owes_at new strikes a) (must_at new a) (entries_of new) n ≡ [] = back-none _ _ (entries_of new) n (λ k past. past-end new strikes a k (omega (arith, past, end))) in
-    parts (owes_at new strikes a) (must_at new a) (entries_of new) n long ∙ ap (λ l. front (owes_at new strikes a) (must_at new a) (entries_of new) n ++ l) none ∙ append-nil _
-    ∙ listed-alike _ _ _ _ 0 (take n (entries_of new)) (entries_of old) short (λ j below. grind arith) (λ j below is. grind (arith, get_or-take))
+    listed-alike (owes_at new strikes a) (must_at new a) (owes_at old strikes a) (must_at old a) 0 (entries_of new) (entries_of old) long
+    (λ j past. past-end new strikes a (0 + j) (omega (arith, past, end))) (λ j below. alike.owes (0 + j)) (λ j below is. grind arith)
 
 -- accounts that owe alike over old and new gains stay accounts, with the same debts
 pub over-all : (old new : Gains) (strikes : List Strike) (rows : List Account) → length (entries_of old) ≤ length (entries_of new) → All (OwesAlike old new strikes) rows →
@@ -164,10 +149,8 @@ pub without-first_rows : (gains : Gains) (strikes : List Strike) (rows : List Ac
 unfolding accounts_debts
 without-first_rows gains strikes rows n are = grind (arith, nat_tests, common_steps, All-drop, drop-map)
 
--- accounts that are kept over new gains are accounts there, and owe what they owed
-pub over : (old new : Gains) (strikes : List Strike) (rows : List Account) → KeepsAccounts old new → AreGains new → AreAccounts old strikes rows →
-    AreAccounts new strikes rows × (accounts_debts new strikes rows ≡ accounts_debts old strikes rows)
-over old new strikes rows keeps gained are = let all = keeps.each strikes rows are.each in (record { gained = gained; each = all.0 }, all.1)
-
 -- lemmas for the prover under one name: what must be sent, by the place
 pub ruleset must_by_place = (must-below, must-from)
+
+-- lemmas for the prover under one name: what was gained from the start of an account on is kept
+pub ruleset kept_by_place = (kept-start, entries_long)

@@ -1,15 +1,10 @@
 -- What an account owes, place by place: its debts, whether another account owes the same, and the least deadline of what it must send.
-use Rattle.sip_ledger.proofs.Words.{max, ◌≡◌, ◌≢◌, ℕ, ◌+◌, ◌<◌, ◌≤◌, ◌==◌, ◌&&◌, Bool, true, false, List, [], ◌∷◌, ◌++◌, length, take, drop, map, slice_get, refl, sym, ap, ap₂, ◌∙◌, arith, append-nil, nat_tests, IsTrue, Option, Some, None, ◌↔◌, nat_le, option_to_list, OnTrue, and_left, and_right, cases_eq, cases_lt, eq-eqb, eqb-true, le-leb, false_from_ne_true, true≢false, append_cancel_left, get_or-drop, get_or_default, length-append, length-drop, length-take-le, map-append, All-map, Debt, Entry, Account, Gains, Strike, debt_deadlines, earliest, debt_of, debts_from, IsGap, AreGains, IsAccount, SharesNext, account_debts, entries_of, entry_at, is_left, is_struck, must_at, owes_at, strikes_of, holds}
-use Rattle.sip_ledger.proofs.gains.LeftLemmas.{entries_long, gone-same, left-kept, owed-left, rising_kept}
-use Rattle.sip_ledger.proofs.debts.ListedLemmas.{back, back-none, back-set, earliest-first, earliest-push, front, front-gap, front-next, front-on, listed-All, listed-must, listed-none, no_entry, parts}
-use Rattle.sip_ledger.proofs.account.AccountLemmas.{must-below, must-from, past-end}
+use Rattle.sip_ledger.proofs.Words.{blank, All, All-head, All-tail, fold, IfSome, list_any, MatchOption, max, min, ◌≡◌, ◌≢◌, ℕ, ◌+◌, ◌<◌, ◌≤◌, ◌==◌, ◌&&◌, ◌||◌, Bool, true, false, List, [], ◌∷◌, ◌++◌, length, refl, sym, ap, ◌∙◌, arith, append-nil, nat_tests, IsTrue, Option, Some, None, ◌↔◌, option_to_list, cases_eq, cases_lt, eq-eqb, eqb-true, false_from_ne_true, true≢false, append_cancel_left, length-append, length-take-le, take-append-le, slice_get, take, take_all, Debt, Account, Gains, Strike, debt_deadlines, earliest, debt_of, AreGains, IsAccount, IsAfter, SharesNext, account_debts, entries_of, entry_at, is_left, is_struck, must_at, owes_at, strikes_of, holds}
+use Rattle.sip_ledger.proofs.debts.OwedLemmas.{listed-any}
+use Rattle.sip_ledger.proofs.gains.LeftLemmas.{left-kept, owed-left, rising_kept}
+use Rattle.sip_ledger.proofs.debts.ListedLemmas.{back, back-none, back-set, front, front-gap, front-next, front-on, listed-each, listed-none, listed-same, parts}
+use Rattle.sip_ledger.proofs.account.AccountLemmas.{kept-start, must-alike, must-below, must-from, owed-within, past-end, soft-must}
 use Rattle.sip_ledger.proofs.account.WithoutLemmas.{before-start}
-
--- `next` is the first place from `from` on at which the account owes something, or its end
-pub record IsAfter (gains : Gains) (strikes : List Strike) (a : Account) (from next : ℕ) : Type 0 where
-  pub within : (from ≤ next) × (next ≤ a.end)
-  pub before : (k : ℕ) → from ≤ k → k < next → owes_at gains strikes a k ≡ false
-  pub is : next < a.end → owes_at gains strikes a next ≡ true
 
 -- the debts are what an account owes before a place, at which it owes something or ends
 pub record IsToldTo (gains : Gains) (strikes : List Strike) (a : Account) (place : ℕ) (debts : List Debt) : Type 0 where
@@ -32,7 +27,7 @@ module _ {gains : Gains} {strikes : List Strike} {a : Account} where
   -- before the place after this one it owes one debt more: that of this place
   told-push : {place : ℕ} {debt : Debt} {debts : List Debt} → IsAccount gains strikes a → IsToldTo gains strikes a place debts → place < a.end →
       debt ≡ debt_of (entry_at (entries_of gains) place) (must_at gains a place) → debts ++ debt ∷ [] ≡ front (owes_at gains strikes a) (must_at gains a) (entries_of gains) (place + 1)
-  told-push {place} is was inside debt_is = grind (arith, was.told, debt_is, front-next (owes_at gains strikes a) (must_at gains a) (entries_of gains) place place no_entry)
+  told-push {place} is was inside debt_is = grind (arith, was.told, debt_is, front-next (owes_at gains strikes a) (must_at gains a) (entries_of gains) place place blank)
 
   -- what it owes is what it owes before a place and from there on
   pub told-split : {place : ℕ} {debts : List Debt} → IsAccount gains strikes a → IsToldTo gains strikes a place debts →
@@ -44,7 +39,7 @@ module _ {gains : Gains} {strikes : List Strike} {a : Account} where
   pub told-here : {place : ℕ} {debts : List Debt} → IsAccount gains strikes a → IsToldTo gains strikes a place debts → place < a.end →
       account_debts gains strikes a
       ≡ debts ++ debt_of (entry_at (entries_of gains) place) (must_at gains a place) ∷ back (owes_at gains strikes a) (must_at gains a) (entries_of gains) (place + 1)
-  told-here {place} {debts} is was inside = grind (arith, told-split is was, back-set (owes_at gains strikes a) (must_at gains a) (entries_of gains) place no_entry)
+  told-here {place} {debts} is was inside = grind (arith, told-split is was, back-set (owes_at gains strikes a) (must_at gains a) (entries_of gains) place blank)
 
   -- before its end it owes all of its debts
   pub told-all : {place : ℕ} {debts : List Debt} → IsAccount gains strikes a → IsToldTo gains strikes a place debts → a.end ≤ place → debts ≡ account_debts gains strikes a
@@ -55,6 +50,10 @@ module _ {gains : Gains} {strikes : List Strike} {a : Account} where
   -- what it owes first is the debt of the place where it starts
   pub told-start : IsAccount gains strikes a → a.start < a.end → slice_get (account_debts gains strikes a) 0 ≡ Some (debt_of (entry_at (entries_of gains) a.start) (must_at gains a a.start))
   told-start is some = ap (λ l. slice_get l 0) (told-here is (told-none is refl) some)
+
+  -- before a place of it, it owes the first of its debts
+  pub told-first : {place n : ℕ} {debts : List Debt} → IsAccount gains strikes a → IsToldTo gains strikes a place debts → length debts ≡ n → debts ≡ take n (account_debts gains strikes a)
+  told-first {place} {n} {debts} is was long = grind (arith, told-split is was, take_all, take-append-le)
 
 -- an account with something left does not owe what an account at its end owes
 longer : {gains : Gains} {strikes : List Strike} {one other : Account} {at beside : ℕ} {debts : List Debt} → IsAccount gains strikes one → IsAccount gains strikes other →
@@ -123,119 +122,108 @@ pub alike-struck : (gains : Gains) (strikes : List Strike) (one other : Account)
     (is_left gains k ≡ true → is_struck (strikes_of strikes other) (entry_at (entries_of gains) k).message k ≡ true → is_struck (strikes_of strikes one) (entry_at (entries_of gains) k).message k ≡ true) →
     owes_at gains strikes one k ≡ owes_at gains strikes other k
 unfolding owes_at
-alike-struck gains strikes one other k in_one in_other too too_other = grind (arith, nat_tests, gone-same, false_from_ne_true)
+alike-struck gains strikes one other k in_one in_other too too_other = grind (arith, nat_tests, false_from_ne_true)
 
--- whether what stands at a place is owed and must be sent: o tells which places are owed, and m which must be sent
-abbrev pub due : (ℕ → Bool) → (ℕ → Bool) → ℕ → Bool
-due o m k = o k && m k
+-- accounts with the same places and the same strikes owe the same
+pub alike-debts : (gains : Gains) (strikes : List Strike) (one other : Account) → one.start ≡ other.start → one.end ≡ other.end → one.soft ≡ other.soft →
+    strikes_of strikes one ≡ strikes_of strikes other → account_debts gains strikes one ≡ account_debts gains strikes other
+unfolding account_debts owes_at
+alike-debts gains strikes one other start end soft own = grind (arith, nat_tests, listed-same, soft-must)
 
--- the debts of a list are as they are where only what is owed is looked at for what must be sent
-owed-due : (o m : ℕ → Bool) (i : ℕ) (xs : List Entry) → debts_from o m i xs ≡ debts_from o (due o m) i xs
-owed-due o m i [] = refl
-owed-due o m i (x ∷ xs) = grind (arith, owed-due o m (i + 1) xs)
+-- lemmas for the prover under one name: at which places two accounts owe the same, and whether they do so at all
+pub ruleset shared_by_places = (alike-struck, must-alike, alike-debts, kept-start)
 
--- what is due is owed
-due-among : (o m : ℕ → Bool) (k : ℕ) → due o m k ≡ true → o k ≡ true
-due-among o m k is = grind (arith, nat_tests)
+-- whether one of the debts must be sent, and until this moment
+unfoldable pub has_due : ℕ → List Debt → Bool
+has_due moment debts = list_any (λ debt. debt.must && debt.deadline == moment) debts
 
--- the deadlines of what must be sent among the debts are those of what is due
-pub due-deadlines : (entries : List Entry) (o m : ℕ → Bool) → debt_deadlines (debts_from o m 0 entries) ≡ map (λ d. d.deadline) (debts_from (due o m) (due o m) 0 entries)
-due-deadlines entries o m = ap debt_deadlines (owed-due o m 0 entries) ∙ listed-must o (due o m) 0 entries (due-among o m)
+-- the debt need not be sent, or not before m
+abbrev IsLate : ℕ → Debt → Type 0
+IsLate m debt = debt.must ≡ true → m ≤ debt.deadline
 
--- the least deadline of what must be sent before a place
-abbrev pub least_to : List Entry → (ℕ → Bool) → ℕ → Option ℕ
-least_to entries m to = earliest (map (λ d. d.deadline) (front m m entries to))
+-- the least of a moment and of the deadlines of what must be sent is m where it or one of them is m, and none is below m
+least-fold : (x m : ℕ) (debts : List Debt) → m ≤ x → All (IsLate m) debts → (x == m || has_due m debts) ≡ true → fold min x (debt_deadlines debts) ≡ m
+unfolding has_due
+least-fold x m [] low all is = grind (arith, nat_tests)
+least-fold x m (d ∷ debts) low all is = grind (arith, nat_tests, All-head (IsLate m) d debts all, All-tail (IsLate m) d debts all, least-fold x m debts, least-fold (min x d.deadline) m debts)
 
--- nothing has to be sent before a place below which nothing is due
-pub least-start : (entries : List Entry) (m : ℕ → Bool) (from : ℕ) → from ≤ length entries → ((k : ℕ) → k < from → m k ≡ false) → None ≡ least_to entries m from
-least-start entries m from within none = grind (arith, nat_tests, listed-none, length-take-le)
+-- a moment is the least deadline of what must be sent where it is that of one such debt, and none has an earlier one
+least-is : (m : ℕ) (debts : List Debt) → All (IsLate m) debts → has_due m debts ≡ true → Some m ≡ earliest (debt_deadlines debts)
+unfolding has_due
+least-is m [] all is = absurd (true≢false (sym is))
+least-is m (d ∷ debts) all is = grind (arith, nat_tests, All-head (IsLate m) d debts all, All-tail (IsLate m) d debts all, least-fold d.deadline m debts, least-is m debts)
 
--- the least deadline takes in that of the next place at which something is due
-pub least-more : (entries : List Entry) (m : ℕ → Bool) (from at : ℕ) → from ≤ at → at < length entries → IsGap m from at → m at ≡ true →
-    least_to entries m (at + 1) ≡ earliest ((entry_at entries at).deadline ∷ option_to_list (least_to entries m from))
-least-more entries m from at order inside gap is =
-    ap (λ l. earliest (map (λ (d : Debt). d.deadline) l)) (front-next m m entries from at no_entry order inside gap is)
-    ∙ ap earliest (map-append (λ (d : Debt). d.deadline) (front m m entries from) (debt_of (entry_at entries at) (m at) ∷ []))
-    ∙ earliest-push (map (λ (d : Debt). d.deadline) (front m m entries from)) (entry_at entries at).deadline
-
--- the least deadline before a place from which on nothing is due is the least of all
-pub least-end : (entries : List Entry) (m : ℕ → Bool) (from : ℕ) → from ≤ length entries → ((k : ℕ) → from ≤ k → m k ≡ false) →
-    earliest (map (λ d. d.deadline) (debts_from m m 0 entries)) ≡ least_to entries m from
-least-end entries m from within none =
-    ap (λ l. earliest (map (λ (d : Debt). d.deadline) l))
-    (parts m m entries from within ∙ ap (λ l. front m m entries from ++ l) (back-none m m entries from none) ∙ append-nil (front m m entries from))
-
--- where no later deadline is below that of the first gain that is due, it is the least
-pub least-rising : (entries : List Entry) (m : ℕ → Bool) (at : ℕ) → ((k : ℕ) → at ≤ k → k < length entries → (entry_at entries at).deadline ≤ (entry_at entries k).deadline) →
-    at < length entries → ((k : ℕ) → k < at → m k ≡ false) → m at ≡ true → Some (entry_at entries at).deadline ≡ earliest (map (λ d. d.deadline) (debts_from m m 0 entries))
-least-rising entries m at rising inside none is =
-    let later = back m m entries (at + 1) in
-    -- nothing is due before the place, so its debt comes first
-    let nothing : front m m entries at ≡ [] = grind (arith, listed-none, length-take-le) in
-    let whole : debts_from m m 0 entries ≡ debt_of (entry_at entries at) (m at) ∷ later =
-    parts m m entries at (omega (arith, inside)) ∙ ap₂ (λ a b. a ++ b) nothing (back-set m m entries at no_entry inside is) in
-    earliest-first (entry_at entries at).deadline (map (λ (x : Debt). x.deadline) later)
-    (All-map (λ y. (entry_at entries at).deadline ≤ y) (λ (x : Debt). x.deadline) later
-    (listed-All (λ x. (entry_at entries at).deadline ≤ x.deadline) m m (at + 1) (drop (at + 1) entries)
-    (λ j e below due. grind (arith, length-drop, get_or-drop, get_or_default))))
-    ∙ sym (ap (λ l. earliest (map (λ (x : Debt). x.deadline) l)) whole)
+-- where no debt must be sent, there is no least deadline
+least-none : (debts : List Debt) → All (λ d. d.must ≡ false) debts → None ≡ earliest (debt_deadlines debts)
+least-none [] none = refl
+least-none (d ∷ debts) none = grind (arith, nat_tests, All-head (λ d. d.must ≡ false) d debts none, least-none debts (All-tail (λ d. d.must ≡ false) d debts none))
 
 -- `least` is the least deadline of what the account must send before the place; where deadlines rise there is none yet
 pub record IsLeastTo (gains : Gains) (strikes : List Strike) (a : Account) (from : ℕ) (least : Option ℕ) : Type 0 where
-  pub is : least ≡ least_to (entries_of gains) (due (owes_at gains strikes a) (must_at gains a)) from
-  pub low : a.start ≤ from
+  pub is : IfSome least (λ m. has_due m (account_debts gains strikes a) ≡ true)
+  pub low : (k : ℕ) → k < from → owes_at gains strikes a k ≡ true → must_at gains a k ≡ true → MatchOption least ⊥ (λ m. m ≤ (entry_at (entries_of gains) k).deadline)
   pub soft : a.soft ≤ from
-  pub within : from ≤ length (entries_of gains)
-  pub none : gains.rises ≡ true → (k : ℕ) → k < from → due (owes_at gains strikes a) (must_at gains a) k ≡ false
-
--- a gain that need not be sent as it was gained need not be sent by any account
-unmust : (gains : Gains) (a : Account) (k : ℕ) → holds gains.musts 0 k ≡ false → must_at gains a k ≡ false
-unfolding must_at
-unmust gains a k none = and_left (holds gains.musts 0 k) (nat_le a.soft k) none
-
--- IsLeastTo holds at the later one of the start and the `soft` of an account, with no deadline
-pub least-first : (gains : Gains) (strikes : List Strike) (a : Account) (from : ℕ) → IsAccount gains strikes a → a.start ≤ from → a.soft ≤ from → from ≤ max a.start a.soft →
-    IsLeastTo gains strikes a from None
-least-first gains strikes a from is low soft one = grind (arith, nat_tests, least-start, and_left, before-start, and_right, must-below)
-
--- nothing is due before the next place of a gain that must be sent
-gap-due : (gains : Gains) (strikes : List Strike) (a : Account) (from at : ℕ) → ((k : ℕ) → from ≤ k → k < at → holds gains.musts 0 k ≡ false) →
-    IsGap (due (owes_at gains strikes a) (must_at gains a)) from at
-gap-due gains strikes a from at none k above below = and_right (owes_at gains strikes a k) (must_at gains a k) (unmust gains a k (none k above below))
-
--- IsLeastTo goes on over places at which nothing has to be sent, and over one that the account does not owe
-pub least-passed : (gains : Gains) (strikes : List Strike) (a : Account) (from at : ℕ) (least : Option ℕ) → IsLeastTo gains strikes a from least → from ≤ at → at < length (entries_of gains) →
-    ((k : ℕ) → from ≤ k → k < at → holds gains.musts 0 k ≡ false) → owes_at gains strikes a at ≡ false → IsLeastTo gains strikes a (at + 1) least
-least-passed gains strikes a from at least was above inside gap unowed = grind (arith, nat_tests, and_left, gap-due, cases_lt, front-gap)
-
--- IsLeastTo goes on over a place that is due, with its deadline among the others
-pub least-found : (gains : Gains) (strikes : List Strike) (a : Account) (from at moment : ℕ) (least : Option ℕ) → IsLeastTo gains strikes a from least → from ≤ at → at < length (entries_of gains) →
-    ((k : ℕ) → from ≤ k → k < at → holds gains.musts 0 k ≡ false) → holds gains.musts 0 at ≡ true → owes_at gains strikes a at ≡ true →
-    Some moment ≡ earliest ((entry_at (entries_of gains) at).deadline ∷ option_to_list least) → gains.rises ≡ false → IsLeastTo gains strikes a (at + 1) (Some moment)
-least-found gains strikes a from at moment least was above inside gap held owed is falls = grind (arith, nat_tests, least-more, gap-due, false_from_ne_true, true≢false, must-from)
-
--- where deadlines rise, the first one that is found is the least of all
-pub least-first_due : (gains : Gains) (strikes : List Strike) (a : Account) (from at moment : ℕ) (least : Option ℕ) → AreGains gains → IsLeastTo gains strikes a from least → from ≤ at →
-    at < length (entries_of gains) → ((k : ℕ) → from ≤ k → k < at → holds gains.musts 0 k ≡ false) → holds gains.musts 0 at ≡ true → owes_at gains strikes a at ≡ true →
-    Some moment ≡ earliest ((entry_at (entries_of gains) at).deadline ∷ option_to_list least) → gains.rises ≡ true →
-    Some moment ≡ earliest (debt_deadlines (account_debts gains strikes a))
-unfolding account_debts
-least-first_due gains strikes a from at moment least gained was above inside gap held owed is rises = grind (arith, nat_tests, least-start, least-rising, rising_kept, left-kept, owed-left, entries_long, cases_lt, gap-due, due-deadlines, must-from)
-
--- where nothing is due from a place on, the least deadline so far is that of all
-pub least-last : (gains : Gains) (strikes : List Strike) (a : Account) (from at : ℕ) (least : Option ℕ) → IsLeastTo gains strikes a from least →
-    ((k : ℕ) → from ≤ k → k < at → holds gains.musts 0 k ≡ false) → a.end ≤ at → least ≡ earliest (debt_deadlines (account_debts gains strikes a))
-unfolding account_debts
-least-last gains strikes a from at least was gap past = grind (arith, nat_tests, least-end, cases_lt, gap-due, and_left, past-end, due-deadlines)
+  pub none : gains.rises ≡ true → least ≡ None
 
 -- a gain that must be sent was gained so, at `soft` or after it
 must-parts : (gains : Gains) (a : Account) (k : ℕ) → must_at gains a k ≡ true → (holds gains.musts 0 k ≡ true) × (a.soft ≤ k)
 must-parts gains a k is = grind (arith, nat_tests, cases_lt, false_from_ne_true, true≢false, must-below, must-from)
 
--- where deadlines rise and the first debt must be sent, its deadline is the least
-pub leading : (gains : Gains) (strikes : List Strike) (a : Account) (moment : ℕ) → AreGains gains → IsAccount gains strikes a → a.start < a.end → gains.rises ≡ true →
-    must_at gains a a.start ≡ true → moment ≡ (entry_at (entries_of gains) a.start).deadline → Some moment ≡ earliest (debt_deadlines (account_debts gains strikes a))
-leading gains strikes a moment are is some rises must here =
-    let parts = must-parts gains a a.start must in
-    let least = least-first gains strikes a a.start is (omega arith) parts.1 (omega arith) in
-    grind (arith, nat_tests, parts, least, least-first_due gains strikes a a.start a.start moment None)
+-- What follows is of one account and what it must send, over places from `from` up to `at`.
+module _ (gains : Gains) (strikes : List Strike) (a : Account) where
+  -- what is owed and must be sent at a place is a debt that must be sent
+  due-there : (k : ℕ) → IsAccount gains strikes a → owes_at gains strikes a k ≡ true → must_at gains a k ≡ true →
+      has_due (entry_at (entries_of gains) k).deadline (account_debts gains strikes a) ≡ true
+  unfolding account_debts has_due
+  due-there k is owed must = grind (arith, nat_tests, listed-any, owed-within, eq-eqb)
+
+  -- a moment is the least deadline where it is that of a debt that must be sent, and no place that is owed and must be sent has an earlier one
+  least-of : (m : ℕ) → has_due m (account_debts gains strikes a) ≡ true → ((k : ℕ) → owes_at gains strikes a k ≡ true → must_at gains a k ≡ true → m ≤ (entry_at (entries_of gains) k).deadline) →
+      Some m ≡ earliest (debt_deadlines (account_debts gains strikes a))
+  unfolding account_debts
+  least-of m is low =
+      least-is m (account_debts gains strikes a) (listed-each (IsLate m) (owes_at gains strikes a) (must_at gains a) (entries_of gains) (λ k below. low k)) is
+
+  -- IsLeastTo holds at the later one of the start and the `soft` of an account, with no deadline
+  pub least-first : (from : ℕ) → a.soft ≤ from → from ≤ max a.start a.soft → IsLeastTo gains strikes a from None
+  least-first from soft low = grind (arith, nat_tests, cases_lt, true≢false, before-start, must-parts)
+
+  -- where deadlines rise, and nothing before a place is owed and must be sent, what is owed there and must be sent has the least deadline
+  pub leading : (at : ℕ) → AreGains gains → IsAccount gains strikes a → gains.rises ≡ true → owes_at gains strikes a at ≡ true → must_at gains a at ≡ true →
+      ((k : ℕ) → k < at → owes_at gains strikes a k ≡ true → ¬ (must_at gains a k ≡ true)) → Some (entry_at (entries_of gains) at).deadline ≡ earliest (debt_deadlines (account_debts gains strikes a))
+  leading at are is rises owed must none =
+      least-of (entry_at (entries_of gains) at).deadline (due-there at is owed must) (λ k owed_k must_k. grind (arith, nat_tests, cases_lt, left-kept, owed-left, none k, rising_kept gains at k are rises))
+
+  -- where nothing that must be sent was gained from `from` up to the account's end, the least deadline so far is that of all
+  pub least-last : {from : ℕ} (at : ℕ) (least : Option ℕ) → IsLeastTo gains strikes a from least → ((k : ℕ) → from ≤ k → k < at → holds gains.musts 0 k ≡ false) → a.end ≤ at →
+      least ≡ earliest (debt_deadlines (account_debts gains strikes a))
+  unfolding account_debts
+  least-last at None was gap past =
+      least-none (account_debts gains strikes a) (listed-each (λ d. d.must ≡ false) (owes_at gains strikes a) (must_at gains a) (entries_of gains) (λ k below owed.
+      false_from_ne_true (must_at gains a k) (λ must. grind (arith, nat_tests, cases_lt, true≢false, owed-within, must-parts gains a k must, was.low k))))
+  least-last at (Some m) was gap past = least-of m was.is (λ k owed must. grind (arith, nat_tests, cases_lt, true≢false, owed-within, must-parts gains a k must, was.low k))
+
+-- What follows is of an account of which the least deadline is known before the place `from`, and from there up to `at` nothing was gained that must be sent.
+module _ {gains : Gains} {strikes : List Strike} {a : Account} {from at : ℕ} {least : Option ℕ} (was : IsLeastTo gains strikes a from least) (order : from ≤ at)
+    (gap : (k : ℕ) → from ≤ k → k < at → holds gains.musts 0 k ≡ false) where
+  -- IsLeastTo goes on over a place that the account does not owe
+  pub least-passed : owes_at gains strikes a at ≡ false → IsLeastTo gains strikes a (at + 1) least
+  least-passed unowed = grind (arith, nat_tests, cases_lt, cases_eq, true≢false, must-parts, was, gap)
+
+  -- IsLeastTo goes on over a place that is owed and must be sent, with its deadline among the others
+  pub least-found : {moment : ℕ} → IsAccount gains strikes a → holds gains.musts 0 at ≡ true → owes_at gains strikes a at ≡ true →
+      Some moment ≡ earliest ((entry_at (entries_of gains) at).deadline ∷ option_to_list least) → gains.rises ≡ false → IsLeastTo gains strikes a (at + 1) (Some moment)
+  least-found account held owed is falls =
+      let there = due-there gains strikes a at account owed (sym (must-from gains a at (omega (arith, was.soft, order))) ∙ held) in
+      grind (arith, nat_tests, cases_lt, cases_eq, true≢false, must-parts, there, was, gap)
+
+  -- where deadlines rise, the first one that is found is the least of all
+  pub least-first_due : {moment : ℕ} → AreGains gains → IsAccount gains strikes a → holds gains.musts 0 at ≡ true → owes_at gains strikes a at ≡ true →
+      Some moment ≡ earliest ((entry_at (entries_of gains) at).deadline ∷ option_to_list least) → gains.rises ≡ true → Some moment ≡ earliest (debt_deadlines (account_debts gains strikes a))
+  least-first_due gained is held owed here rises = grind (arith, nat_tests, cases_lt, true≢false, must-parts, must-from, leading, was, gap)
+
+-- lemmas for the prover under one name: what an account owes, from debt to debt
+pub ruleset told_by_place = (kept-start, told-none, told-all)
+
+-- lemmas for the prover under one name: the least deadline of what an account must send first
+pub ruleset led_by_start = (before-start, kept-start, leading)

@@ -1,8 +1,8 @@
 -- An account loses one of its debts, or gains one: a is the account before and b after it, and `old` and `new` are the strikes before and after it.
 -- w is the worth of the debt that is lost, and `print` the print without it, or that the new account has that print.
-use Rattle.sip_ledger.proofs.Words.{◌≡◌, ◌≢◌, ℕ, ◌+◌, ◌<◌, ◌≤◌, ◌%◌, ◌^◌, ◌&&◌, true, false, List, [], ◌∷◌, ◌++◌, length, get_or, sym, ap, ◌∙◌, arith, nat_tests, nat_le, and_right, cases_lt, le-leb, lt-leb, lt-ltb, and-false, or-false, or-true, get_or_push, length-append, sum_by_push, mod-add-mod, Debt, Account, Gains, Strike, debts_print, worth_of, debt_of, IsAccount, IsGain, IsNextGain, IsStruck, KeepsAccounts, account_debts, entries_of, entry_at, is_left, is_struck, must_at, owes_at, strikes_of, holds, common_steps, ◌-◌, not, refl, lit<, nat_lt, eq-eqb, ne_eqb, true≢false, sum_by-append, sum_by-cons, mod_below, add-mod_right, mod-eq_of_lt, IsWithout, is_gone}
+use Rattle.sip_ledger.proofs.Words.{◌≡◌, ◌≢◌, ℕ, ◌+◌, ◌<◌, ◌≤◌, ◌%◌, ◌^◌, ◌&&◌, true, false, List, [], ◌∷◌, ◌++◌, length, get_or, sym, ap, ◌∙◌, arith, nat_tests, nat_le, and_right, cases_lt, le-leb, lt-leb, lt-ltb, and-false, or-false, or-true, get_or_push, length-append, sum_by_push, mod-add-mod, Debt, Account, Gains, Strike, debts_print, worth_of, debt_of, IsAccount, IsAfter, IsGain, IsNextGain, IsStruck, KeepsAccounts, account_debts, entries_of, entry_at, is_left, is_struck, must_at, owes_at, strikes_of, holds, common_steps, ◌-◌, lit<, eq-eqb, ne_eqb, true≢false, sum_by-append, sum_by-cons, mod_below, add-mod_right, mod-eq_of_lt, IsWithout}
 use Rattle.sip_ledger.proofs.debts.OwedLemmas.{gained-debts, IsCut, cut-at}
-use Rattle.sip_ledger.proofs.gains.LeftLemmas.{entries_long, gone-left, gone-same, gone-struck, held_left, left-kept, owed-left}
+use Rattle.sip_ledger.proofs.gains.LeftLemmas.{entries_long, held_left, left-kept, owed-left}
 use Rattle.sip_ledger.proofs.account.AccountLemmas.{grown-alike, over-all, past-end, owed-within, same-keeps, soft-must}
 
 -- the print of debts, with the worth of the one that was taken out, is the print of those of before
@@ -23,92 +23,57 @@ taken-print q w fits less = grind (arith, nat_tests, mod-add-mod, add-mod_right,
 -- an account owes nothing before its start
 pub before-start : (gains : Gains) (strikes : List Strike) (a : Account) (k : ℕ) → k < a.start → owes_at gains strikes a k ≡ false
 unfolding owes_at
-before-start gains strikes a k early = ap (λ b. b && (nat_lt k a.end && not (is_gone gains (strikes_of strikes a) k))) (lt-leb a.start k early)
-
--- where the account begins later, and owed nothing between, it is without its first gain
-pub later-start : (gains : Gains) (strikes : List Strike) (a b : Account) (place : ℕ) → a.start ≡ place → place < b.start → b.end ≡ a.end → b.first ≡ a.first → b.last ≡ a.last →
-    ((k : ℕ) → place < k → k < b.start → owes_at gains strikes a k ≡ false) → IsWithout place (owes_at gains strikes a) (owes_at gains strikes b)
-unfolding owes_at
-later-start gains strikes a b place start later end first last none = grind (arith, nat_tests, before-start, cases_lt, le-leb)
-
--- where the account ends one place earlier, it is without its last gain
-pub earlier-end : (gains : Gains) (strikes : List Strike) (a b : Account) (place : ℕ) → place + 1 ≡ a.end → b.end ≡ place → b.start ≡ a.start → b.first ≡ a.first → b.last ≡ a.last →
-    IsWithout place (owes_at gains strikes a) (owes_at gains strikes b)
-unfolding owes_at
-earlier-end gains strikes a b place end now start first last = grind (arith, nat_tests, past-end, cases_lt, lt-ltb)
-
--- where the gain at the place is struck, the account is without it
-pub struck-without : (gains : Gains) (old new : List Strike) (a b c : Account) (place : ℕ) → IsStruck gains place (place + 1) old new a b →
-    a.start ≤ place → c.start ≡ b.start → c.end ≡ b.end → c.first ≡ b.first → c.last ≡ b.last → IsWithout place (owes_at gains old a) (owes_at gains new c)
-unfolding owes_at
-struck-without gains old new a b c place s low start end first last = grind (arith, nat_tests, gone-struck, eq-eqb, or-true, and_right, and-false, cases_lt, before-start, gone-same, ne_eqb, or-false)
-
--- an account without one of its gains is an account, and owes the debts without that one
-pub without-account : (gains : Gains) (old new : List Strike) (a b : Account) (place w : ℕ) → IsAccount gains old a → owes_at gains old a place ≡ true →
-    IsWithout place (owes_at gains old a) (owes_at gains new b) → b.soft ≡ a.soft → b.start ≤ b.end → b.end ≤ a.end → b.first ≤ b.last → b.last ≤ length new →
-    ((m k : ℕ) → length (entries_of gains) ≤ k → is_struck (strikes_of new b) m k ≡ false) → (b.start < b.end → owes_at gains new b b.start ≡ true) →
-    w ≡ worth_of (entry_at (entries_of gains) place).message (entry_at (entries_of gains) place).deadline → b.print ≡ (a.print + (2 ^ 64 - w)) % 2 ^ 64 →
-    w < 2 ^ 64 → IsAccount gains new b
-unfolding account_debts
-without-account gains old new a b place w is owed without soft order end first last bound begins worth print less =
-    -- the debts are those of before without one, and the number made of them is without its share
-    let cut = cut-at (entries_of gains) (owes_at gains old a) (must_at gains a) (owes_at gains new b) (must_at gains b) place (omega (arith, owed-within gains old a place owed, is.end)) owed without
-    (λ k. soft-must gains a b k soft) in
-    let printed = print ∙ ap (λ n. (n + (2 ^ 64 - w)) % 2 ^ 64) (is.print ∙ sym (cut-print (debt_of (entry_at (entries_of gains) place) (must_at gains a place)) (account_debts gains old a) (account_debts gains new b) cut w worth))
-    ∙ taken-print (debts_print (account_debts gains new b)) w (print-fits (account_debts gains new b)) less in
-    grind (arith, printed)
-
--- what an account owes stands at its start or after it
-pub owed-from : (gains : Gains) (strikes : List Strike) (a : Account) (k : ℕ) → owes_at gains strikes a k ≡ true → a.start ≤ k
-owed-from gains strikes a k is = grind (arith, nat_tests, cases_lt, true≢false, before-start)
+before-start gains strikes a k early = grind (arith, lt-leb)
 
 -- a worth is a number of 64 bits: it is a remainder by 2^64, which is not 0 (`lit< tt`)
 pub worth-fits : (m d : ℕ) → worth_of m d < 2 ^ 64
 unfolding worth_of
 worth-fits m d = mod_below _ (2 ^ 64) (lit< tt)
 
--- an account without its first debt is an account, and owes the others
-pub without-first : (gains : Gains) (strikes : List Strike) (a : Account) (place w next print : ℕ) → IsAccount gains strikes a → owes_at gains strikes a place ≡ true →
-    place ≡ a.start → w ≡ worth_of (entry_at (entries_of gains) place).message (entry_at (entries_of gains) place).deadline → print ≡ (a.print + (2 ^ 64 - w)) % 2 ^ 64 →
-    (place + 1 ≤ next) × (next ≤ a.end) → ((k : ℕ) → place + 1 ≤ k → k < next → owes_at gains strikes a k ≡ false) →
-    (next < a.end → owes_at gains strikes a next ≡ true) →
-    IsAccount gains strikes (record a { start = next; print = print }) ×
-    IsWithout place (owes_at gains strikes a) (owes_at gains strikes (record a { start = next; print = print }))
-without-first gains strikes a place w next print is owed here worth printed order none begins =
-    -- the account that begins later does not owe the place, and owes all others
-    let b : Account = record a { start = next; print = print } in
-    let without : IsWithout place (owes_at gains strikes a) (owes_at gains strikes b) =
-    later-start gains strikes a b place (sym here) (omega (arith, order.0)) refl refl refl (λ k above below. none k (omega (arith, above)) below) in
-    let account : IsAccount gains strikes b = grind (arith, nat_tests, without-account gains strikes strikes a b place w, without, worth-fits, without.others next) in
-    (account, without)
+-- What follows is of an account that loses what it owes at a place.
+module _ (gains : Gains) (old : List Strike) (a : Account) (place w print : ℕ) (is : IsAccount gains old a) (owed : owes_at gains old a place ≡ true)
+    (worth : w ≡ worth_of (entry_at (entries_of gains) place).message (entry_at (entries_of gains) place).deadline) (printed : print ≡ (a.print + (2 ^ 64 - w)) % 2 ^ 64) where
+  -- b is an account, and owes the others
+  abbrev pub Loses : List Strike → Account → Type 0
+  Loses new b = IsAccount gains new b × IsWithout place (owes_at gains old a) (owes_at gains new b)
 
--- an account without its last debt is an account, and owes the others
-pub without-last : (gains : Gains) (strikes : List Strike) (a : Account) (place w print : ℕ) → IsAccount gains strikes a → owes_at gains strikes a place ≡ true →
-    place ≢ a.start → place + 1 ≡ a.end → w ≡ worth_of (entry_at (entries_of gains) place).message (entry_at (entries_of gains) place).deadline →
-    print ≡ (a.print + (2 ^ 64 - w)) % 2 ^ 64 →
-    IsAccount gains strikes (record a { end = place; print = print }) ×
-    IsWithout place (owes_at gains strikes a) (owes_at gains strikes (record a { end = place; print = print }))
-without-last gains strikes a place w print is owed later last worth printed =
-    -- the account that ends earlier does not owe the place, and owes all others
-    let b : Account = record a { end = place; print = print } in
-    let from = owed-from gains strikes a place owed in
-    let without : IsWithout place (owes_at gains strikes a) (owes_at gains strikes b) = earlier-end gains strikes a b place last refl refl refl refl in
-    let account : IsAccount gains strikes b = grind (arith, nat_tests, without-account gains strikes strikes a b place w, without, worth-fits, without.others a.start) in
-    (account, without)
+  -- an account without one of its gains is an account, and owes the debts without that one
+  without-account : (new : List Strike) (b : Account) → IsWithout place (owes_at gains old a) (owes_at gains new b) → b.soft ≡ a.soft → b.start ≤ b.end → b.end ≤ a.end → b.first ≤ b.last →
+      b.last ≤ length new → ((m k : ℕ) → length (entries_of gains) ≤ k → is_struck (strikes_of new b) m k ≡ false) → (b.start < b.end → owes_at gains new b b.start ≡ true) → b.print ≡ print →
+      IsAccount gains new b
+  unfolding account_debts
+  without-account new b without soft order end first last bound begins same =
+      -- the debts are those of before without one, and the number made of them is without its share
+      let cut = cut-at (entries_of gains) (owes_at gains old a) (must_at gains a) (owes_at gains new b) (must_at gains b) place (omega (arith, owed-within gains old a place owed, is.end)) owed without
+      (λ k. soft-must gains a b k soft) in
+      let less : w < 2 ^ 64 = rw worth (worth-fits (entry_at (entries_of gains) place).message (entry_at (entries_of gains) place).deadline) in
+      let all = same ∙ printed ∙ ap (λ n. (n + (2 ^ 64 - w)) % 2 ^ 64) (is.print ∙ sym (cut-print (debt_of (entry_at (entries_of gains) place) (must_at gains a place)) (account_debts gains old a) (account_debts gains new b) cut w worth))
+      ∙ taken-print (debts_print (account_debts gains new b)) w (print-fits (account_debts gains new b)) less in
+      grind (arith, all)
 
--- an account without a debt between others is an account, and owes the others
-pub without-middle : (gains : Gains) (old new : List Strike) (a b : Account) (place w print : ℕ) → IsAccount gains old a → owes_at gains old a place ≡ true →
-    place ≢ a.start → IsStruck gains place (place + 1) old new a b → w ≡ worth_of (entry_at (entries_of gains) place).message (entry_at (entries_of gains) place).deadline →
-    print ≡ (a.print + (2 ^ 64 - w)) % 2 ^ 64 →
-    IsAccount gains new (record b { print = print }) ×
-    IsWithout place (owes_at gains old a) (owes_at gains new (record b { print = print }))
-without-middle gains old new a b place w print is owed later struck worth printed =
-    -- the account with one strike more does not owe the place, and owes all others
-    let c : Account = record b { print = print } in
-    let from = owed-from gains old a place owed in
-    let without : IsWithout place (owes_at gains old a) (owes_at gains new c) = struck-without gains old new a b c place struck from refl refl refl refl in
-    let account : IsAccount gains new c = grind (arith, nat_tests, without-account gains old new a c place w, without, worth-fits, without.others a.start) in
-    (account, without)
+  -- an account without its first debt begins with the next one
+  pub without-first : (next : ℕ) → place ≡ a.start → IsAfter gains old a (place + 1) next → Loses old (record a { start = next; print = print })
+  unfolding owes_at
+  without-first next here after =
+      let b : Account = record a { start = next; print = print } in
+      let without : IsWithout place (owes_at gains old a) (owes_at gains old b) = grind (arith, nat_tests, before-start, cases_lt, le-leb, after.before) in
+      (grind (arith, nat_tests, without-account old b, without, without.others next), without)
+
+  -- an account without its last debt ends before it
+  pub without-last : place ≢ a.start → place + 1 ≡ a.end → Loses old (record a { end = place; print = print })
+  unfolding owes_at
+  without-last later last =
+      let b : Account = record a { end = place; print = print } in
+      let without : IsWithout place (owes_at gains old a) (owes_at gains old b) = grind (arith, nat_tests, past-end, before-start, cases_lt, lt-ltb) in
+      (grind (arith, nat_tests, cases_lt, true≢false, before-start, without-account old b, without, without.others a.start), without)
+
+  -- an account without a debt between others has one strike more
+  pub without-middle : (new : List Strike) (b : Account) → place ≢ a.start → IsStruck gains place (place + 1) old new a b → Loses new (record b { print = print })
+  unfolding owes_at
+  without-middle new b later struck =
+      let c : Account = record b { print = print } in
+      let without : IsWithout place (owes_at gains old a) (owes_at gains new c) = grind (arith, nat_tests, eq-eqb, or-true, and_right, and-false, cases_lt, before-start, ne_eqb, or-false) in
+      (grind (arith, nat_tests, cases_lt, true≢false, before-start, without-account new c, without, without.others a.start), without)
 
 -- the print of debts with one debt more is their print and the worth of that debt
 pub print-more : (debts : List Debt) (debt : Debt) → debts_print (debts ++ debt ∷ []) ≡ (debts_print debts + worth_of debt.message debt.deadline) % 2 ^ 64
@@ -145,16 +110,9 @@ unfolding owes_at is_struck
 first-gain gains old new a b debt place is next none same print =
     -- the new account has no strikes and owes this place alone, and the old one owed nothing
     let own : strikes_of new b ≡ [] = grind arith in
-    let left : is_left gains place ≡ true = sym (held_left gains debt.message place next.gain.message) ∙ next.gain.left in
-    let here : owes_at gains new b place ≡ true = grind (arith, nat_tests, gone-left) in
+    let here : owes_at gains new b place ≡ true = grind (arith, nat_tests, held_left) in
     let others : (k : ℕ) → k ≢ place → owes_at gains new b k ≡ owes_at gains old a k = grind (arith, before-start, past-end) in
     gained-account gains old new a b debt place is next here others (grind arith) (grind arith) (grind arith) (grind arith) (grind arith) (grind arith) (grind arith) print
-
--- at other places an account that gains at a place owes what it owed, where the gains between its end and the place are struck
-passed-others : (gains : Gains) (old new : List Strike) (a p b : Account) (place k : ℕ) → IsStruck gains a.end place old new a p → a.end ≤ length (entries_of gains) → a.end ≤ place →
-    place < length (entries_of gains) → b.start ≡ a.start → b.end ≡ place + 1 → strikes_of new b ≡ strikes_of new p → k ≢ place → owes_at gains new b k ≡ owes_at gains old a k
-unfolding owes_at
-passed-others gains old new a p b place k passed within low inside start end own other = grind (arith, nat_tests, cases_lt, before-start, gone-same, lt-leb, or-false, le-leb, lt-ltb, gone-struck, or-true, and_right, and-false, past-end)
 
 -- an account that owes something gains at a place, where the gains between its end and the place are struck
 pub more-gain : (gains : Gains) (old new : List Strike) (a p b : Account) (debt : Debt) (place : ℕ) → IsAccount gains old a → IsNextGain gains old a debt place → a.start ≢ a.end →
@@ -164,14 +122,15 @@ unfolding owes_at
 more-gain gains old new a p b debt place is next some passed same print =
     -- the account begins where it did and ends with the place
     let order = is.order in
-    let start : b.start ≡ a.start = ap (λ (x : Account). x.start) same ∙ passed.start in
+    let start : b.start ≡ a.start = ap (λ (x : Account). x.start) same ∙ ap (λ (x : Account). x.start) passed.same in
     let end : b.end ≡ place + 1 = ap (λ (x : Account). x.end) same in
     let own : strikes_of new b ≡ strikes_of new p = grind arith in
     -- the account owes the place, and of the other places those that it owed
     let left : is_left gains place ≡ true = sym (held_left gains debt.message place next.gain.message) ∙ next.gain.left in
     let free : is_struck (strikes_of new b) (entry_at (entries_of gains) place).message place ≡ false = grind (arith, nat_tests) in
-    let here : owes_at gains new b place ≡ true = grind (arith, nat_tests, gone-left) in
-    let others = λ (k : ℕ) (other : k ≢ place). passed-others gains old new a p b place k passed is.end next.end next.gain.within start end own other in
+    let here : owes_at gains new b place ≡ true = grind (arith, nat_tests) in
+    let others : (k : ℕ) → k ≢ place → owes_at gains new b k ≡ owes_at gains old a k =
+    λ k other. grind (arith, nat_tests, cases_lt, before-start, lt-leb, or-false, le-leb, lt-ltb, or-true, and_right, and-false, past-end) in
     gained-account gains old new a b debt place is next here others (grind arith) (grind arith) end (grind arith) (grind arith) (grind arith)
     (λ _. let other : a.start ≢ place = omega (arith, order, next.end, some) in
     ap (owes_at gains new b) start ∙ others a.start other ∙ is.begins (omega (arith, order, some)))

@@ -1,9 +1,5 @@
 -- The debts of a list of entries: `o` tells which places are owed, and `m` which of them must be sent.
-use Rattle.sip_ledger.proofs.Words.{common_steps, nat_tests, ◌≡◌, ℕ, zero, suc, ◌+◌, ◌-◌, ◌<◌, ◌≤◌, Bool, true, false, ◌&&◌, ◌||◌, cond, List, [], ◌∷◌, ◌++◌, length, take, drop, get_or, map, filter, refl, sym, ap, ◌∙◌, subst, arith, ap₂, All, nat_le, Some, option_to_list, min, fold, append-nil, append_cancel_right, drop_more, length-drop, length-take-le, take-append-drop, take-take, take_more, get_or_default, All-nil, All-cons, All-head, All-tail, Debt, Entry, counts_at, softened_debt, debt_deadlines, earliest, debt_of, debts_from, IsGap}
-
--- what stands where there is no entry
-abbrev pub no_entry : Entry
-no_entry = record { message = 0; deadline = 0 }
+use Rattle.sip_ledger.proofs.Words.{blank, common_steps, nat_tests, ◌≡◌, ℕ, zero, suc, ◌+◌, ◌-◌, ◌<◌, ◌≤◌, Bool, true, false, ◌&&◌, ◌||◌, cond, List, [], ◌∷◌, ◌++◌, length, take, drop, get_or, map, filter, refl, sym, ap, ◌∙◌, subst, arith, ap₂, All, nat_le, append-nil, append_cancel_right, drop_more, length-drop, length-take-le, take-append-drop, take-take, take_more, get_or_default, All-nil, All-cons, Debt, Entry, counts_at, softened_debt, debt_of, debts_from, IsGap}
 
 -- where P holds of all of a list, and of a first debt if the test lets it stand, it holds of all that stands
 cond-All : (P : Debt → Type 0) (b : Bool) (d : Debt) (xs : List Debt) → (b ≡ true → P d) → All P xs → All P (cond b (d ∷ xs) xs)
@@ -26,6 +22,11 @@ pub listed-none : (o m : ℕ → Bool) (i : ℕ) (xs : List Entry) → ((k : ℕ
 listed-none o m i [] none = refl
 listed-none o m i (x ∷ xs) none = grind (arith, nat_tests, listed-none o m (i + 1) xs)
 
+-- there are no more debts than entries
+pub listed-few : (o m : ℕ → Bool) (i : ℕ) (xs : List Entry) → length (debts_from o m i xs) ≤ length xs
+listed-few o m i [] = omega arith
+listed-few o m i (x ∷ xs) = grind (arith, listed-few o m (i + 1) xs)
+
 -- where P holds of the debt of each place that is owed, it holds of all debts
 pub listed-All : (P : Debt → Type 0) (o m : ℕ → Bool) (i : ℕ) (xs : List Entry) →
     ((j : ℕ) (e : Entry) → j < length xs → o (i + j) ≡ true → P (debt_of (get_or xs j e) (m (i + j)))) → All P (debts_from o m i xs)
@@ -37,11 +38,11 @@ listed-All P o m i (x ∷ xs) each =
     (listed-All P o m (i + 1) xs (λ j e below is. grind (arith, each (suc j) e)))
 
 -- where P holds of the debt of each place that is owed, it holds of all debts that these places have
-pub listed-each : (P : Debt → Type 0) (o m : ℕ → Bool) (entries : List Entry) → ((k : ℕ) → k < length entries → o k ≡ true → P (debt_of (get_or entries k no_entry) (m k))) →
+pub listed-each : (P : Debt → Type 0) (o m : ℕ → Bool) (entries : List Entry) → ((k : ℕ) → k < length entries → o k ≡ true → P (debt_of (get_or entries k blank) (m k))) →
     All P (debts_from o m 0 entries)
 listed-each P o m entries each = listed-All P o m 0 entries (λ j e below set.
     let here : 0 + j ≡ j = omega arith in
-    subst P (ap₂ debt_of (get_or_default entries j no_entry e below) (ap m (sym here))) (each j below (ap o (sym here) ∙ set)))
+    subst P (ap₂ debt_of (get_or_default entries j blank e below) (ap m (sym here))) (each j below (ap o (sym here) ∙ set)))
 
 -- the debts of the places before k
 abbrev pub front : (ℕ → Bool) → (ℕ → Bool) → List Entry → ℕ → List Debt
@@ -71,8 +72,8 @@ back-set o m entries k e within is = grind (arith, nat_tests, common_steps, back
 -- where k is not owed, the debts from k on are those from k + 1 on
 pub back-unset : (o m : ℕ → Bool) (entries : List Entry) (k : ℕ) → k < length entries → o k ≡ false → back o m entries k ≡ back o m entries (k + 1)
 back-unset o m entries k within is =
-    back-at o m entries k no_entry within
-    ∙ ap (λ b. cond b (debt_of (get_or entries k no_entry) (m k) ∷ back o m entries (k + 1)) (back o m entries (k + 1))) is
+    back-at o m entries k blank within
+    ∙ ap (λ b. cond b (debt_of (get_or entries k blank) (m k) ∷ back o m entries (k + 1)) (back o m entries (k + 1))) is
 
 -- where no place from k on is owed, there are no debts from k on
 pub back-none : (o m : ℕ → Bool) (entries : List Entry) (k : ℕ) → ((j : ℕ) → k ≤ j → o j ≡ false) → back o m entries k ≡ []
@@ -112,11 +113,10 @@ listed-counting t o m o' i (x ∷ xs) each =
     let rest : debts_from o' m (i + 1) xs ≡ filter (counts_at t) (debts_from o m (i + 1) xs) = listed-counting t o m o' (i + 1) xs (λ j e below. grind (arith, each (suc j) e)) in
     grind (arith, nat_tests, here, rest)
 
--- where no place must be sent any more, the debts are the softened ones
-pub listed-softened : (o m m' : ℕ → Bool) (i : ℕ) (xs : List Entry) → ((k : ℕ) → m' k ≡ false) →
-    debts_from o m' i xs ≡ map softened_debt (debts_from o m i xs)
+-- where nothing that is owed must be sent any more, the debts are the softened ones
+pub listed-softened : (o m m' : ℕ → Bool) (i : ℕ) (xs : List Entry) → ((k : ℕ) → o k ≡ true → m' k ≡ false) → debts_from o m' i xs ≡ map softened_debt (debts_from o m i xs)
 listed-softened o m m' i [] none = refl
-listed-softened o m m' i (x ∷ xs) none = grind (arith, nat_tests, listed-softened o m m' (i + 1) xs none)
+listed-softened o m m' i (x ∷ xs) none = grind (arith, nat_tests, none i, listed-softened o m m' (i + 1) xs none)
 
 -- where no place from `from` up to `at` is owed, the debts before `at` are those before `from`
 pub front-gap : (o m : ℕ → Bool) (entries : List Entry) (from at : ℕ) → from ≤ at → at ≤ length entries → IsGap o from at →
@@ -138,29 +138,3 @@ front-on o m o' m' entries at n within same agree =
     let xs = take (at + n) entries in
     let rest : back o m xs at ≡ back o' m' xs at = grind (arith, listed-same, length-take-le, length-drop) in
     grind (arith, parts o m xs at, parts o' m' xs at, rest, take-take, length-take-le)
-
--- where what must be sent is owed, the deadlines of the debts that must be sent are those of the places that must be sent
-pub listed-must : (o m : ℕ → Bool) (i : ℕ) (xs : List Entry) → ((k : ℕ) → m k ≡ true → o k ≡ true) →
-    debt_deadlines (debts_from o m i xs) ≡ map (λ d. d.deadline) (debts_from m m i xs)
-listed-must o m i [] among = refl
-listed-must o m i (x ∷ xs) among = grind (arith, nat_tests, listed-must o m (i + 1) xs among)
-
--- the least of some moments and a further one is the lesser of their least and of that one
-fold-push : (a m : ℕ) (ms : List ℕ) → fold min a (ms ++ m ∷ []) ≡ min (fold min a ms) m
-fold-push a m [] = refl
-fold-push a m (x ∷ xs) = fold-push (min a x) m xs
-
--- the earliest moment is the same whether one comes last or first
-pub earliest-push : (ms : List ℕ) (m : ℕ) → earliest (ms ++ m ∷ []) ≡ earliest (m ∷ option_to_list (earliest ms))
-earliest-push [] m = refl
-earliest-push (x ∷ xs) m = let turned : min (fold min x xs) m ≡ min m (fold min x xs) = omega arith in ap Some (fold-push x m xs ∙ turned)
-
--- the least of moments of which none is below the first is the first
-fold-first : (x : ℕ) (xs : List ℕ) → All (λ y. x ≤ y) xs → fold min x xs ≡ x
-fold-first x [] above = refl
-fold-first x (y ∷ ys) above =
-    let here : min x y ≡ x = omega (arith, All-head (λ z. x ≤ z) y ys above) in grind (arith, here, fold-first x ys (All-tail (λ z. x ≤ z) y ys above))
-
--- a moment that none of the others is before is the earliest
-pub earliest-first : (x : ℕ) (xs : List ℕ) → All (λ y. x ≤ y) xs → Some x ≡ earliest (x ∷ xs)
-earliest-first x xs above = ap Some (sym (fold-first x xs above))

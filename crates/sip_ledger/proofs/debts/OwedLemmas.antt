@@ -1,6 +1,6 @@
 -- What is owed once one place changes (o and m say which places are owed and which must be, o' and m' which then), what a payment leaves, and longer runs.
-use Rattle.sip_ledger.proofs.Words.{◌≡◌, ◌+◌, ◌-◌, List, [], ◌∷◌, ◌++◌, length, get_or, set, arith, nat_tests, cases_eq, flat_map-append, append-nil, append_assoc, drop_all, get_or_default, get_or-set_same, get_or-set_other, length-set, replicate_more, set_split, take-append-drop, drop_more, All-set, Debt, Run, debts_in, AreRuns, ◌∙◌, ℕ, All, refl, sym, ap, cond, IsTrue, false_from_ne_true, All-head, All-tail, IsWithoutFirst, is_payable, paid_by, ◌≢◌, ◌<◌, ◌≤◌, Bool, true, false, take, ap₂, subst, list_any, list_any-append, get_or-take, length-append, length-take-le, Entry, debt_of, debts_from, IsWithout, EndsWith}
-use Rattle.sip_ledger.proofs.debts.ListedLemmas.{listed-front, no_entry, front, back, parts, back-set, back-unset, back-same, back-none, front-same, listed-each}
+use Rattle.sip_ledger.proofs.Words.{blank, ◌≡◌, ◌+◌, ◌-◌, List, [], ◌∷◌, ◌++◌, length, get_or, set, arith, nat_tests, cases_eq, flat_map-append, append-nil, append_assoc, drop_all, get_or_default, get_or-set_same, get_or-set_other, length-set, replicate_more, set_split, take-append-drop, drop_more, All-set, Debt, Run, debts_in, AreRuns, ◌∙◌, ℕ, All, refl, sym, ap, cond, IsTrue, false_from_ne_true, All-head, All-tail, IsWithoutFirst, is_payable, paid_by, ◌≢◌, ◌<◌, ◌≤◌, Bool, true, false, take, ap₂, subst, list_any, list_any-append, get_or-take, length-append, length-take-le, Entry, debt_of, debts_from, IsWithout, EndsWith}
+use Rattle.sip_ledger.proofs.debts.ListedLemmas.{listed-front, front, back, parts, back-set, back-unset, back-same, back-none, front-same, listed-each}
 
 -- the new debts are the old ones without `debt`, which stood between those of `before` and those of `after`
 pub record IsCut (before : List Debt) (debt : Debt) (after old new : List Debt) : Type 0 where
@@ -9,11 +9,11 @@ pub record IsCut (before : List Debt) (debt : Debt) (after old new : List Debt) 
 
 -- where the place `at` is owed no more, the debts are those of before without its debt
 pub cut-at : (entries : List Entry) (o m o' m' : ℕ → Bool) (at : ℕ) → at < length entries → o at ≡ true → IsWithout at o o' → ((k : ℕ) → m' k ≡ m k) →
-    IsCut (front o m entries at) (debt_of (get_or entries at no_entry) (m at)) (back o m entries (at + 1)) (debts_from o m 0 entries) (debts_from o' m' 0 entries)
+    IsCut (front o m entries at) (debt_of (get_or entries at blank) (m at)) (back o m entries (at + 1)) (debts_from o m 0 entries) (debts_from o' m' 0 entries)
 cut-at entries o m o' m' at within is without must =
     let less : at ≤ length entries = omega (arith, within) in
     record {
-      whole = parts o m entries at less ∙ ap (λ l. front o m entries at ++ l) (back-set o m entries at no_entry within is);
+      whole = parts o m entries at less ∙ ap (λ l. front o m entries at ++ l) (back-set o m entries at blank within is);
       -- the debts before the place and after it are the same
       rest = parts o' m' entries at less
           ∙ ap₂ (λ a b. a ++ b)
@@ -24,48 +24,48 @@ cut-at entries o m o' m' at within is without must =
 
 -- where `at` is the first place that is owed whose debt has P, the debts without that place are those of before without the first of which P holds
 abbrev pub removed : (P : Debt → Type 0) (entries : List Entry) (o m o' m' : ℕ → Bool) (at : ℕ) → at < length entries → o at ≡ true → IsWithout at o o' → ((k : ℕ) → m' k ≡ m k) →
-    P (debt_of (get_or entries at no_entry) (m at)) → ((k : ℕ) → k < at → o k ≡ true → ¬ (P (debt_of (get_or entries k no_entry) (m k)))) →
+    P (debt_of (get_or entries at blank) (m at)) → ((k : ℕ) → k < at → o k ≡ true → ¬ (P (debt_of (get_or entries k blank) (m k)))) →
     IsWithoutFirst P (debts_from o m 0 entries) (debts_from o' m' 0 entries)
 removed P entries o m o' m' at within is without must holds none =
     let cut = cut-at entries o m o' m' at within is without must in
     record {
       -- the debts before the place, its debt and the debts after it are those of before
       before = front o m entries at;
-      first = debt_of (get_or entries at no_entry) (m at);
+      first = debt_of (get_or entries at blank) (m at);
       after = back o m entries (at + 1);
       whole = cut.whole;
       holds = holds;
       none_before = listed-each (λ d. ¬ (P d)) o m (take at entries) (λ k below set.
           let early : k < at = omega (arith, below, length-take-le at entries (omega (arith, within))) in
-          subst (λ e. ¬ (P (debt_of e (m k)))) (sym (get_or-take at entries k no_entry early)) (none k early set));
+          subst (λ e. ¬ (P (debt_of e (m k)))) (sym (get_or-take at entries k blank early)) (none k early set));
       rest = cut.rest;
     }
 
 -- where the place `at`, after all others that are owed, is owed too, its debt stands after the others
 pub gained-debts : (entries : List Entry) (o m o' m' : ℕ → Bool) (at : ℕ) → at < length entries → ((k : ℕ) → at ≤ k → o k ≡ false) →
     o' at ≡ true → ((k : ℕ) → k ≢ at → o' k ≡ o k) → ((k : ℕ) → k ≢ at → m' k ≡ m k) →
-    debts_from o' m' 0 entries ≡ debts_from o m 0 entries ++ debt_of (get_or entries at no_entry) (m' at) ∷ []
+    debts_from o' m' 0 entries ≡ debts_from o m 0 entries ++ debt_of (get_or entries at blank) (m' at) ∷ []
 gained-debts entries o m o' m' at inside last here others must_others =
-    let debt = debt_of (get_or entries at no_entry) (m' at) in
+    let debt = debt_of (get_or entries at blank) (m' at) in
     let less : at ≤ length entries = omega (arith, inside) in
     -- before the place was owed, it had nothing after it
     let old = listed-front o m entries at less last in
     parts o' m' entries at less
     ∙ ap₂ (λ a b. a ++ b)
     (front-same o' m' o m entries at less (λ j below. let not : j ≢ at = omega (arith, below) in (others j not, must_others j not)) ∙ sym old)
-    (back-set o' m' entries at no_entry inside here
+    (back-set o' m' entries at blank inside here
     ∙ ap (λ l. debt ∷ l) (back-none o' m' entries (at + 1) (λ j above. let not : j ≢ at = omega (arith, above) in others j not ∙ last j (omega (arith, above)))))
 
 -- where the debt of a place that is owed passes a test, one of the debts does
 pub listed-any : (test : Debt → Bool) (entries : List Entry) (o m : ℕ → Bool) (at : ℕ) → at < length entries → o at ≡ true →
-    test (debt_of (get_or entries at no_entry) (m at)) ≡ true → list_any test (debts_from o m 0 entries) ≡ true
-listed-any test entries o m at within is passes = grind (arith, nat_tests, parts o m entries at, back-set o m entries at no_entry, list_any-append)
+    test (debt_of (get_or entries at blank) (m at)) ≡ true → list_any test (debts_from o m 0 entries) ≡ true
+listed-any test entries o m at within is passes = grind (arith, nat_tests, parts o m entries at, back-set o m entries at blank, list_any-append)
 
 -- where a place is owed, the list of debts is not empty
 pub some-debt : (entries : List Entry) (o m : ℕ → Bool) (k : ℕ) → k < length entries → o k ≡ true → debts_from o m 0 entries ≢ []
 some-debt entries o m k within is none =
-    let whole = parts o m entries k (omega (arith, within)) ∙ ap (λ l. front o m entries k ++ l) (back-set o m entries k no_entry within is) in
-    let long = length-append (front o m entries k) (debt_of (get_or entries k no_entry) (m k) ∷ back o m entries (k + 1)) in
+    let whole = parts o m entries k (omega (arith, within)) ∙ ap (λ l. front o m entries k ++ l) (back-set o m entries k blank within is) in
+    let long = length-append (front o m entries k) (debt_of (get_or entries k blank) (m k) ∷ back o m entries (k + 1)) in
     absurd (omega (arith, ap length (sym whole ∙ none), long))
 
 -- What follows is of a send of one message at the moment t.
@@ -76,7 +76,7 @@ module _ (message t : ℕ) where
 
   -- a send pays the first debt that it can pay: those before it and after it stay
   -- the first debt of the list is paid, or the send cannot pay it and pays a later one
-  paid-behind : (before : List Debt) (first : Debt) (after : List Debt) → All Unpaid before → IsTrue (is_payable message t first) →
+  pub paid-behind : (before : List Debt) (first : Debt) (after : List Debt) → All Unpaid before → IsTrue (is_payable message t first) →
       paid_by message t (before ++ first ∷ after) ≡ before ++ after
   paid-behind [] first after none pays = ap (λ b. cond b after (first ∷ paid_by message t after)) pays
   paid-behind (debt ∷ before) first after none pays = grind (arith, nat_tests, false_from_ne_true, All-head, All-tail, paid-behind before first after (All-tail Unpaid debt before none) pays)

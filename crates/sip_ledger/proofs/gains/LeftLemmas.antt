@@ -1,6 +1,6 @@
 -- Which gains are left, whether their deadlines rise, what is known beside each by its flags, and what changes of that when gains come, are let go or are dropped.
-use Rattle.sip_ledger.proofs.Words.{nat_tests, ◌-◌, ◌<◌, ◌≤◌, List, [], ◌∷◌, ◌++◌, length, get_or, arith, cases_lt, cases_eq, get_or_append_left, get_or_push, length_push, Entry, AreRising, ◌≡◌, ℕ, Bool, ◌+◌, true, false, drop, set, ap, ◌∙◌, get_or-drop, get_or-set_other, get_or-set_same, length-append, length-drop, length-set, Debt, Gains, AreFlags, AreSameGains, IsDropped, IsGain, IsUndropped, IsLetGo, blank, entries_of, entry_at, is_left, no_flags, holds, suc, ◌^◌, ◌==◌, ◌&&◌, ◌||◌, cond, not, refl, sym, ap₂, replicate, eq-eqb, false_from_ne_true, ne_eqb, true≢false, and-false, append_assoc, get_or-append_right, get_or_default, get_or_past, length-replicate, Account, Strike, debts_from, AreGains, IsNoted, IsPlaceOf, is_gone, is_struck, owes_at}
-use Rattle.sip_ledger.proofs.debts.ListedLemmas.{no_entry}
+use Rattle.sip_ledger.proofs.Words.{nat_tests, ◌-◌, ◌<◌, ◌≤◌, List, [], ◌∷◌, ◌++◌, length, get_or, arith, cases_lt, cases_eq, get_or_append_left, get_or_push, length_push, Entry, AreRising, ◌≡◌, ℕ, Bool, ◌+◌, true, false, drop, set, ap, ◌∙◌, get_or-drop, get_or-set_other, get_or-set_same, length-append, length-drop, length-set, Debt, Gains, AreFlags, AreSameGains, IsDropped, IsGain, IsUndropped, IsLetGo, blank, entries_of, entry_at, is_left, no_flags, holds, suc, ◌^◌, ◌==◌, ◌&&◌, cond, sym, ap₂, replicate, eq-eqb, false_from_ne_true, ne_eqb, true≢false, and-false, append_assoc, get_or-append_right, get_or_default, get_or_past, length-replicate, Account, Strike, debts_from, AreGains, IsNoted, owes_at}
+use Rattle.sip_ledger.proofs.debts.ListedLemmas.{listed-none}
 
 -- there are as many entries as there were gains
 pub entries_long : (gains : Gains) → length gains.entries.items ≤ gains.end → length (entries_of gains) ≡ gains.end
@@ -18,14 +18,10 @@ pub entry_index : (gains : Gains) (k i : ℕ) (e : Entry) → length gains.entri
     e ≡ get_or gains.entries.items i e → e ≡ entry_at (entries_of gains) k
 entry_index gains k i e long kept here is = grind (arith, get_or_default, entry-kept)
 
--- a gain that is left stands under its message
-pub left-place : (gains : Gains) (k : ℕ) → AreGains gains → is_left gains k ≡ true → IsPlaceOf gains (entry_at (entries_of gains) k).message k
-unfolding is_left
-left-place gains k are left = are.messages (entry_at (entries_of gains) k).message k left
-
 -- a gain that is left is kept
 pub left-kept : (gains : Gains) (k : ℕ) → AreGains gains → is_left gains k ≡ true → IsUndropped gains k
-left-kept gains k are left = (left-place gains k are left).kept
+unfolding is_left
+left-kept gains k are left = (are.messages (entry_at (entries_of gains) k).message k left).kept
 
 -- a gain stands under its message exactly if it is left
 pub held_left : (gains : Gains) (m k : ℕ) → (entry_at (entries_of gains) k).message ≡ m → holds gains.messages m k ≡ is_left gains k
@@ -42,40 +38,18 @@ unfolding holds
 none-gained gains entries flags end messages musts = grind (arith, nat_tests, true≢false)
 
 -- where nothing was gained there are no entries
-pub none-entries : (gains : Gains) → gains.entries.items ≡ [] → gains.end ≡ 0 → entries_of gains ≡ []
+pub none_entries : (gains : Gains) → gains.entries.items ≡ [] → gains.end ≡ 0 → entries_of gains ≡ []
 unfolding entries_of
-none-entries gains entries end = ap₂ (λ (n : ℕ) (l : List Entry). replicate (n - length l) blank ++ l) end entries
+none_entries gains entries end = ap₂ (λ (n : ℕ) (l : List Entry). replicate (n - length l) blank ++ l) end entries
 
 -- deadlines rise over what is kept
 pub rising_kept : (gains : Gains) (i k : ℕ) → AreGains gains → gains.rises ≡ true → IsUndropped gains i → i ≤ k → k < gains.end →
     (entry_at (entries_of gains) i).deadline ≤ (entry_at (entries_of gains) k).deadline
 rising_kept gains i k are rises kept order within = grind (arith, nat_tests, entry-kept)
 
--- a gain that is not left is gone
-pub gone-unleft : (gains : Gains) (own : List Strike) (k : ℕ) → is_left gains k ≡ false → is_gone gains own k ≡ true
-unfolding is_gone
-gone-unleft gains own k none = ap (λ b. not b || is_struck own (entry_at (entries_of gains) k).message k) none
-
--- a gain that is left is gone exactly if it is struck
-pub gone-left : (gains : Gains) (own : List Strike) (k : ℕ) → is_left gains k ≡ true → is_gone gains own k ≡ is_struck own (entry_at (entries_of gains) k).message k
-unfolding is_gone
-gone-left gains own k left = ap (λ b. not b || is_struck own (entry_at (entries_of gains) k).message k) left
-
--- where two lists of strikes strike the same of what is left, the same is gone by both
-pub gone-same : (gains : Gains) (own own' : List Strike) (k : ℕ) →
-    (is_left gains k ≡ true → is_struck own' (entry_at (entries_of gains) k).message k ≡ is_struck own (entry_at (entries_of gains) k).message k) →
-    is_gone gains own' k ≡ is_gone gains own k
-unfolding is_gone
-gone-same gains own own' k same = grind (arith, nat_tests)
-
--- a gain is gone where it is not left, or is left and struck
-pub gone-struck : (gains : Gains) (own : List Strike) (k : ℕ) → (is_left gains k ≡ true → is_struck own (entry_at (entries_of gains) k).message k ≡ true) → is_gone gains own k ≡ true
-unfolding is_gone
-gone-struck gains own k struck = grind (arith, nat_tests)
-
 -- a gain that is owed is left
 pub owed-left : (gains : Gains) (strikes : List Strike) (a : Account) (k : ℕ) → owes_at gains strikes a k ≡ true → is_left gains k ≡ true
-unfolding owes_at is_gone
+unfolding owes_at
 owed-left gains strikes a k is = grind (arith, nat_tests, true≢false)
 
 -- all gains with one more are the gains and this one after them
@@ -84,82 +58,68 @@ pub more-entries : (old new : Gains) (entry : Entry) → length old.entries.item
 unfolding entries_of
 more-entries old new entry long entries end = grind (arith, nat_tests, length-append, append_assoc)
 
--- where a gain comes and stands under its message, the gains are right, and the new one is theirs
-pub gains-more : (old new : Gains) (debt : Debt) → AreGains old → new.entries.items ≡ old.entries.items ++ (record { message = debt.message; deadline = debt.deadline }) ∷ [] →
-    new.end ≡ old.end + 1 → new.end < 2 ^ 64 → IsNoted old.end debt old.messages old.musts new.messages new.musts →
-    (new.rises ≡ true → AreRising (old.entries.items ++ (record { message = debt.message; deadline = debt.deadline }) ∷ [])) → old.highest ≤ new.highest → debt.message ≤ new.highest →
-    (IsGain debt old new → AreFlags new) → AreGains new × IsGain debt old new
-gains-more old new debt are entries end small noted rises higher own flags =
-    -- all entries are the old ones and the new one
-    let all : entries_of new ≡ entries_of old ++ (record { message = debt.message; deadline = debt.deadline }) ∷ [] = more-entries old new (record { message = debt.message; deadline = debt.deadline }) are.long entries end in
-    let count = entries_long old are.long in
-    let longer = length-append old.entries.items ((record { message = debt.message; deadline = debt.deadline }) ∷ []) in
-    let gain : IsGain debt old new = grind (arith, nat_tests, all, count, ne_eqb, and-false, eq-eqb) in
-    let right = flags gain in
-    (grind (arith, nat_tests, cases_eq, ne_eqb, and-false, not-noted, get_or_push, get_or_append_left, all, count, entries, longer, rises, right), gain)
-
--- where the entries and the places under the messages stay, the gains are right still, and the same
-pub gains-same : (old new : Gains) → AreGains old → new.entries.items ≡ old.entries.items → new.end ≡ old.end → ((m k : ℕ) → holds new.messages m k ≡ holds old.messages m k) →
-    ((k : ℕ) → holds new.musts 0 k ≡ holds old.musts 0 k) → new.rises ≡ old.rises → new.highest ≡ old.highest → (AreSameGains old new → AreFlags new) → AreGains new × AreSameGains old new
-unfolding entries_of
-gains-same old new are entries end messages musts rises highest flags = grind (arith, nat_tests)
-
--- where a gain is taken from under its message, the gains are right still, and it is let go
-pub gains-let_go : (old new : Gains) (place : ℕ) → AreGains old → new.entries.items ≡ old.entries.items → new.end ≡ old.end → new.rises ≡ old.rises → new.highest ≡ old.highest →
-    ((m k : ℕ) → holds new.messages m k ≡ cond (m == (entry_at (entries_of old) place).message && k == place) false (holds old.messages m k)) →
-    ((m k : ℕ) → holds new.musts m k ≡ cond (m == 0 && k == place) false (holds old.musts m k)) → (IsLetGo place old new → AreFlags new) →
-    AreGains new × IsLetGo place old new
-unfolding entries_of
-gains-let_go old new place are entries end rises highest messages musts flags = grind (arith, nat_tests, cases_eq, eq-eqb, ne_eqb, false_from_ne_true, and-false, true≢false)
-
--- where the first gains are dropped, none of which is left, the gains are right still
-pub gains-dropped : (old new : Gains) (place count : ℕ) → AreGains old → count + (old.end - length old.entries.items) ≡ place → place ≤ old.end →
-    new.entries.items ≡ drop count old.entries.items → new.end ≡ old.end → new.messages ≡ old.messages → new.musts ≡ old.musts → new.rises ≡ old.rises → new.highest ≡ old.highest →
-    ((m k : ℕ) → k < place → holds old.messages m k ≡ false) → (IsDropped place old new → AreFlags new) → AreGains new × IsDropped place old new
-gains-dropped old new place count are here within entries end messages musts rises highest none flags =
-    let dropped : IsDropped place old new = grind (arith, nat_tests, length-drop, cases_lt, entry-kept, get_or-drop, entries_long, true≢false, get_or_past) in
-    let right = flags dropped in
-    (grind (arith, nat_tests, length-drop, cases_lt, entry-kept, get_or-drop, entries_long, true≢false, get_or_past, right), dropped)
-
--- two lists of entries have the same debts where the same places are owed and have the same entries there: o and o' tell which places of each are owed,
--- and m and m' which must be sent
-pub listed-alike : (o m o' m' : ℕ → Bool) (i : ℕ) (xs ys : List Entry) → length xs ≡ length ys → ((j : ℕ) → j < length xs → o (i + j) ≡ o' (i + j)) →
-    ((j : ℕ) → j < length xs → o (i + j) ≡ true → (get_or xs j no_entry ≡ get_or ys j no_entry) × (m (i + j) ≡ m' (i + j))) →
-    debts_from o m i xs ≡ debts_from o' m' i ys
-listed-alike o m o' m' i [] [] long same alike = refl
-listed-alike o m o' m' i [] (y ∷ ys) long same alike = absurd (omega (arith, long))
-listed-alike o m o' m' i (x ∷ xs) [] long same alike = absurd (omega (arith, long))
-listed-alike o m o' m' i (x ∷ xs) (y ∷ ys) long same alike =
-    let rest : debts_from o m (i + 1) xs ≡ debts_from o' m' (i + 1) ys = listed-alike o m o' m' (i + 1) xs ys (omega (arith, long)) (λ j below. grind (arith, same (suc j))) (λ j below is. grind (arith, alike (suc j))) in
-    grind (arith, same 0, alike 0)
-
 -- whether a gain is left depends on its entry and the index alone
 pub left-as : (old new : Gains) (k : ℕ) → entry_at (entries_of new) k ≡ entry_at (entries_of old) k → ((m : ℕ) → holds new.messages m k ≡ holds old.messages m k) → is_left new k ≡ is_left old k
 unfolding is_left
 left-as old new k same messages = ap (λ (e : Entry). holds new.messages e.message k) same ∙ messages (entry_at (entries_of old) k).message
 
--- flags stay right where entries, flags and index stay the same
-pub flags-same : (old new : Gains) → AreFlags old → new.entries.items ≡ old.entries.items → new.flags.items ≡ old.flags.items → new.end ≡ old.end → AreSameGains old new → AreFlags new
-flags-same old new are entries flags end same = grind (arith, nat_tests, left-as)
-
--- where a gain is put after the others, with flags of its own, the flags are right still
-pub flags-more : (old new : Gains) (debt : Debt) (newest : Bool) → AreFlags old → (newest ≡ true → (k : ℕ) → IsUndropped old k → (entry_at (entries_of old) k).message ≤ debt.message) →
-    length old.entries.items ≤ old.end → length (entries_of old) ≡ old.end →
-    new.entries.items ≡ old.entries.items ++ (record { message = debt.message; deadline = debt.deadline }) ∷ [] →
-    new.flags.items ≡ old.flags.items ++ (record { must = debt.must; left = true; newest = newest }) ∷ [] → new.end ≡ old.end + 1 → IsGain debt old new → AreFlags new
+-- where a gain comes with its flags, and stands under its message, the gains are right, and the new one is theirs
+pub gains-more : (old new : Gains) (debt : Debt) (newest : Bool) → AreGains old → new.entries.items ≡ old.entries.items ++ (record { message = debt.message; deadline = debt.deadline }) ∷ [] →
+    new.flags.items ≡ old.flags.items ++ (record { must = debt.must; left = true; newest = newest }) ∷ [] → new.end ≡ old.end + 1 → new.end < 2 ^ 64 →
+    IsNoted old.end debt old.messages old.musts new.messages new.musts → (newest ≡ true → old.highest ≤ debt.message) →
+    (new.rises ≡ true → AreRising (old.entries.items ++ (record { message = debt.message; deadline = debt.deadline }) ∷ [])) → old.highest ≤ new.highest → debt.message ≤ new.highest →
+    AreGains new × IsGain debt old new
 unfolding is_left
-flags-more old new debt newest are above long count entries flags end gain = grind (arith, nat_tests, length-append, get_or_push, get_or_append_left, cases_eq, left-as)
+gains-more old new debt newest are entries flags end small noted top rises higher own =
+    -- all entries are the old ones and the new one
+    let all : entries_of new ≡ entries_of old ++ (record { message = debt.message; deadline = debt.deadline }) ∷ [] = more-entries old new (record { message = debt.message; deadline = debt.deadline }) are.long entries end in
+    let count = entries_long old are.long in
+    let longer = length-append old.entries.items ((record { message = debt.message; deadline = debt.deadline }) ∷ []) in
+    let gain : IsGain debt old new = grind (arith, nat_tests, all, count, ne_eqb, and-false, eq-eqb) in
+    let right : AreFlags new = grind (arith, nat_tests, length-append, get_or_push, get_or_append_left, cases_eq, left-as, gain, count) in
+    (grind (arith, nat_tests, cases_eq, ne_eqb, and-false, not-noted, get_or_push, get_or_append_left, all, count, entries, longer, rises, right), gain)
+
+-- where the entries, the flags and the places under the messages stay, the gains are right still, and the same
+pub gains-same : (old new : Gains) → AreGains old → new.entries.items ≡ old.entries.items → new.flags.items ≡ old.flags.items → new.end ≡ old.end →
+    ((m k : ℕ) → holds new.messages m k ≡ holds old.messages m k) → ((k : ℕ) → holds new.musts 0 k ≡ holds old.musts 0 k) → new.rises ≡ old.rises → new.highest ≡ old.highest →
+    AreGains new × AreSameGains old new
+unfolding entries_of
+gains-same old new are entries flags end messages musts rises highest = grind (arith, nat_tests, left-as)
 
 -- where a gain is let go, and its flags are blank then, the flags are right still
-pub flags-let_go : (old new : Gains) (place : ℕ) → AreFlags old → length old.entries.items ≤ old.end → IsUndropped old place → new.entries.items ≡ old.entries.items →
+flags-let_go : (old new : Gains) (place : ℕ) → AreFlags old → length old.entries.items ≤ old.end → IsUndropped old place → new.entries.items ≡ old.entries.items →
     new.flags.items ≡ set old.flags.items (place - (old.end - length old.entries.items)) no_flags → holds new.musts 0 place ≡ false → IsLetGo place old new → AreFlags new
 unfolding is_left
 flags-let_go old new place are long kept entries flags must gone = grind (arith, nat_tests, get_or-set_same, get_or-set_other, length-set, cases_eq, left-as)
 
--- where the first gains are dropped, with their flags, the flags are right still
-pub flags-dropped : (old new : Gains) (place count : ℕ) → AreFlags old → length old.entries.items ≤ old.end → count + (old.end - length old.entries.items) ≡ place → place ≤ old.end →
-    new.entries.items ≡ drop count old.entries.items → new.flags.items ≡ drop count old.flags.items → new.end ≡ old.end → IsDropped place old new → AreFlags new
-flags-dropped old new place count are long here within entries flags end dropped = grind (arith, nat_tests, length-drop, get_or-drop, left-as)
+-- where a gain is taken from under its message, and its flags are blank then, the gains are right still, and it is let go
+pub gains-let_go : (old new : Gains) (place : ℕ) → AreGains old → IsUndropped old place → new.entries.items ≡ old.entries.items →
+    new.flags.items ≡ set old.flags.items (place - (old.end - length old.entries.items)) no_flags → new.end ≡ old.end → new.rises ≡ old.rises → new.highest ≡ old.highest →
+    ((m k : ℕ) → holds new.messages m k ≡ cond (m == (entry_at (entries_of old) place).message && k == place) false (holds old.messages m k)) →
+    ((m k : ℕ) → holds new.musts m k ≡ cond (m == 0 && k == place) false (holds old.musts m k)) → AreGains new × IsLetGo place old new
+unfolding entries_of
+gains-let_go old new place are kept entries flags end rises highest messages musts =
+    grind (arith, nat_tests, cases_eq, eq-eqb, ne_eqb, false_from_ne_true, and-false, true≢false, flags-let_go)
+
+-- where the first gains are dropped, none of which is left, with their flags, the gains are right still
+pub gains-dropped : (old new : Gains) (place count : ℕ) → AreGains old → count + (old.end - length old.entries.items) ≡ place → place ≤ old.end →
+    new.entries.items ≡ drop count old.entries.items → new.flags.items ≡ drop count old.flags.items → new.end ≡ old.end → new.messages ≡ old.messages → new.musts ≡ old.musts →
+    new.rises ≡ old.rises → new.highest ≡ old.highest → ((m k : ℕ) → k < place → holds old.messages m k ≡ false) → AreGains new × IsDropped place old new
+gains-dropped old new place count are here within entries flags end messages musts rises highest none =
+    let dropped : IsDropped place old new = grind (arith, nat_tests, length-drop, cases_lt, entry-kept, get_or-drop, entries_long, true≢false, get_or_past) in
+    let right : AreFlags new = grind (arith, nat_tests, length-drop, get_or-drop, left-as, dropped) in
+    (grind (arith, nat_tests, length-drop, cases_lt, entry-kept, get_or-drop, entries_long, true≢false, get_or_past, right), dropped)
+
+-- two lists of entries, of which the first may be longer, have the same debts where the same places are owed and have the same entries there: o and o' tell
+-- which places of each are owed, and m and m' which must be sent
+pub listed-alike : (o m o' m' : ℕ → Bool) (i : ℕ) (xs ys : List Entry) → length ys ≤ length xs → ((j : ℕ) → length ys ≤ j → o (i + j) ≡ false) → ((j : ℕ) → j < length ys → o (i + j) ≡ o' (i + j)) →
+    ((j : ℕ) → j < length ys → o (i + j) ≡ true → (get_or xs j blank ≡ get_or ys j blank) × (m (i + j) ≡ m' (i + j))) → debts_from o m i xs ≡ debts_from o' m' i ys
+listed-alike o m o' m' i xs [] long none same alike = listed-none o m i xs (λ k low high. let here : i + (k - i) ≡ k = omega (arith, low) in grind (arith, here, none (k - i)))
+listed-alike o m o' m' i [] (y ∷ ys) long none same alike = absurd (omega (arith, long))
+listed-alike o m o' m' i (x ∷ xs) (y ∷ ys) long none same alike =
+    let rest : debts_from o m (i + 1) xs ≡ debts_from o' m' (i + 1) ys =
+    listed-alike o m o' m' (i + 1) xs ys (omega (arith, long)) (λ j past. grind (arith, none (suc j))) (λ j below. grind (arith, same (suc j))) (λ j below is. grind (arith, alike (suc j))) in
+    grind (arith, same 0, alike 0)
 
 -- where deadlines never fall, and that of a further entry is not before the last, those with it never fall
 pub rising-push : (entries : List Entry) (entry : Entry) → AreRising entries → ((e : Entry) → 0 < length entries → (get_or entries (length entries - 1) e).deadline ≤ entry.deadline) →

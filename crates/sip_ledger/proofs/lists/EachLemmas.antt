@@ -1,5 +1,5 @@
 -- Lists of which each element from one on changes, or after which some of them come once more.
-use Rattle.sip_ledger.proofs.Words.{nat_tests, Result, Ok, Err, OnOk, is_err, true≢false, ◌≡◌, ◌<◌, ◌≤◌, ◌⊎◌, inl, inr, ℕ, ◌+◌, Bool, false, List, [], ◌∷◌, ◌++◌, length, drop, take, get_or, set, map, filter, refl, ap, sym, ◌∙◌, arith, cond, append-nil, drop_all, length-append, length-drop, length-map, length-take, take-append-drop, take-append-le, take-take, take_all, All-drop, filter_more, map_fixed, from_to}
+use Rattle.sip_ledger.proofs.Words.{nat_tests, Result, Ok, Err, OnOk, is_err, true≢false, ◌≡◌, ◌<◌, ◌≤◌, ◌⊎◌, inl, inr, ℕ, ◌+◌, ◌-◌, Bool, false, List, [], ◌∷◌, ◌++◌, length, drop, take, get_or, set, map, filter, refl, ap, sym, ◌∙◌, arith, cond, append-nil, drop-take, drop_all, get_or-drop, length-append, length-drop, length-map, length-take, take-append-drop, take-append-le, take-take, take_all, All-drop, filter_more, map_fixed, from_to}
 use Prim.Native.Nat.{suc, zero}
 
 -- what a result that is no error tells holds
@@ -48,19 +48,12 @@ module _ {X : Type 0} where
   pub unchanged-each : (f : X → X) (from : ℕ) (xs : List X) → ((k : ℕ) (d : X) → k < length xs → f (get_or xs k d) ≡ get_or xs k d) → xs ≡ take from xs ++ map f (drop from xs)
   unchanged-each f from xs each = sym (take-append-drop from xs) ∙ ap (λ l. take from xs ++ l) (sym (map_fixed f (drop from xs) (All-drop (λ x. f x ≡ x) from xs each)))
 
-  -- those that pass a test up to the next index are those up to k, and the element at k if it passes
-  -- the elements are those from the first one on; or those from a later one on, and then the first is left out
-  passing-next : (p : X → Bool) (from k : ℕ) (xs : List X) (d : X) → from ≤ k → k < length xs →
-      filter p (from_to from (suc k) xs) ≡ filter p (from_to from k xs) ++ cond (p (get_or xs k d)) (get_or xs k d ∷ []) []
-  passing-next p zero k xs d le low = let next : suc k ≡ k + 1 = omega arith in ap (λ n. filter p (take n xs)) next ∙ filter_more p xs k d low
-  passing-next p (suc from) zero xs d le low = absurd (omega (arith, le))
-  passing-next p (suc from) (suc k) [] d le low = absurd (omega (arith, low))
-  passing-next p (suc from) (suc k) (x ∷ xs) d le low = passing-next p from k xs d (omega (arith, le)) (omega (arith, low))
-
   -- those that pass a test up to k + 1 are those up to k, and the element at k if it passes
   pub passing-more : (p : X → Bool) (from k : ℕ) (xs : List X) (d : X) → from ≤ k → k < length xs →
       filter p (from_to from (k + 1) xs) ≡ filter p (from_to from k xs) ++ cond (p (get_or xs k d)) (get_or xs k d ∷ []) []
-  passing-more p from k xs d le low = grind (arith, nat_tests, passing-next)
+  passing-more p from k xs d le low =
+      let here : from + (k - from) ≡ k = omega (arith, le) in
+      grind (arith, here, filter_more p (drop from xs) (k - from) d, drop-take from (k - from) xs, drop-take from (k - from + 1) xs, get_or-drop from xs (k - from) d, length-drop from xs)
 
   -- where the loop ended at k, which is `to`, or `from` where that is after `to`, the elements up to k are those up to `to`
   pub from_to-end : (from to k : ℕ) (xs : List X) → from ≤ k → to ≤ k → k ≤ to ⊎ k ≤ from → from_to from k xs ≡ from_to from to xs

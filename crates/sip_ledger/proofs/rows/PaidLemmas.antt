@@ -3,7 +3,7 @@
 use Rattle.sip_ledger.proofs.Words.{◌≡◌, ℕ, ◌+◌, ◌<◌, ◌≤◌, ◌&&◌, ◌||◌, Bool, true, false, List, length, take, filter, arith, nat_tests, nat_le, and-false, cases_eq, cases_lt, lt-leb, take-length, get_or_default, Entry, Account, Gains, Strike, counts_at, AreGains, IsAccount, IsExpiredTo, IsUndropped, IsWithout, account_debts, entries_of, entry_at, must_at, owes_at, [], ◌∷◌, ◌++◌, drop, get_or, set, map, refl, sym, ap, ◌∙◌, All, fold, min, le-leb, or_right, All-filter, All-get_or, All-head, All-map, All-tail, All-weaker, Debt, debt_deadlines, earliest, is_timely, is_within, AreAccounts, KeepsAccounts, accounts_debts, common_steps, cond, Option, Some, None, IfSome, option_to_list, list_any, take-append_seam, append-nil, append_assoc, get_or_append_left, length-append, map-append, owed_in, paid_rows, is_payable, paid_by, from_to}
 use Rattle.sip_ledger.proofs.gains.LeftLemmas.{entries_long, rising_kept, left-kept, owed-left}
 use Rattle.sip_ledger.proofs.debts.ListedLemmas.{listed-counting, listed-same, listed-each}
-use Rattle.sip_ledger.proofs.account.AccountLemmas.{empty-debts, kept-passed, past-end, soft-must, debts_length}
+use Rattle.sip_ledger.proofs.account.AccountLemmas.{empty-debts, kept-start, past-end, soft-must, debts_length}
 use Rattle.sip_ledger.proofs.account.WithoutLemmas.{before-start}
 use Rattle.sip_ledger.proofs.lists.EachLemmas.{changing, changing-front, changing-length, changing-more, changing-all, unchanged-each, from_to-end, passing-more}
 use Rattle.sip_ledger.proofs.rows.SeenLemmas.{changed-by, on-error, over-to, unchanged, account-at, can-pay, pushed-to, row-inside}
@@ -18,10 +18,6 @@ with_debt debt owes = owes ++ debt ∷ []
 pub record HaveGained (debt : Debt) (from k : ℕ) (old : List (List Debt)) (gains : Gains) (strikes : List Strike) (rows : List Account) : Type 0 where
   pub accounts : AreAccounts gains strikes rows
   pub debts : accounts_debts gains strikes rows ≡ changing (with_debt debt) from k old
-
--- there are as many lists of debts as accounts
-pub debts-count : (gains : Gains) (strikes : List Strike) (rows : List Account) (n : ℕ) → n ≡ length rows → n ≡ length (accounts_debts gains strikes rows)
-debts-count gains strikes rows n is = is ∙ sym (debts_length gains strikes rows)
 
 -- What follows is of the rows from `from` up to k, which gain a debt one after the other.
 module _ {debt : Debt} {from k : ℕ} {old : List (List Debt)} {gains : Gains} {strikes : List Strike} {rows : List Account} where
@@ -65,17 +61,12 @@ none-goes gains strikes a t are late =
     let debts = account_debts gains strikes a in
     kept-each t debts (All-weaker (λ (d : Debt). t ≤ d.deadline) (λ d. counts_at t d ≡ true) (λ d late. or_right d.must (nat_le t d.deadline) (le-leb t d.deadline late)) debts (debts-late gains strikes a t are late))
 
--- where no gain that is kept is past, no row has a debt that goes
-rows-same : (gains : Gains) (strikes : List Strike) (rows : List Account) (t : ℕ) → AreGains gains → ((k : ℕ) → IsUndropped gains k → t ≤ (entry_at (entries_of gains) k).deadline) →
-    All (λ owes. filter (counts_at t) owes ≡ owes) (accounts_debts gains strikes rows)
-unfolding accounts_debts
-rows-same gains strikes rows t are late =
-    All-map (λ (owes : List Debt). filter (counts_at t) owes ≡ owes) (account_debts gains strikes) rows (λ k d below. none-goes gains strikes (get_or rows k d) t are late)
-
 -- where no gain that is kept is past, what many rows owe is as it is once what is past is dropped from some
 pub none-past : (gains : Gains) (strikes : List Strike) (rows : List Account) (seen : List (List Debt)) (from t : ℕ) → AreGains gains → accounts_debts gains strikes rows ≡ seen →
     ((k : ℕ) → IsUndropped gains k → t ≤ (entry_at (entries_of gains) k).deadline) → seen ≡ take from seen ++ map (filter (counts_at t)) (drop from seen)
-none-past gains strikes rows seen from t are view late = grind (arith, rows-same, unchanged-each, All-get_or)
+unfolding accounts_debts
+none-past gains strikes rows seen from t are view late =
+    let none = All-map (λ (owes : List Debt). filter (counts_at t) owes ≡ owes) (account_debts gains strikes) rows (λ k d below. none-goes gains strikes (get_or rows k d) t are late) in grind (arith, none, unchanged-each, All-get_or)
 
 -- the least of moments that are not before t is not before it
 least-late : (t x : ℕ) (ms : List ℕ) → t ≤ x → All (λ m. t ≤ m) ms → t ≤ fold min x ms
@@ -96,7 +87,7 @@ none_late gains strikes a t are late =
     (All-map (λ m. t ≤ m) (λ (d : Debt). d.deadline) must (All-filter (λ (d : Debt). d.must) (λ (d : Debt). t ≤ d.deadline) (account_debts gains strikes a) (debts-late gains strikes a t are late)))
 
 -- lemmas for the prover under one name: what rows owe once some of them have gained a debt
-pub ruleset gained_by_rows = (changing-all, debts-count, gained-front, gained-grown, gained-more, gained-over, on-error)
+pub ruleset gained_by_rows = (changing-all, debts_length, gained-front, gained-grown, gained-more, gained-over, on-error)
 
 -- the debts that a payment leaves
 abbrev pub left_by : ℕ → ℕ → List Debt → List Debt
@@ -206,4 +197,4 @@ pub record IsExpiring (gains : Gains) (old new : List Strike) (a b : Account) (t
   pub gone : IsExpiredTo t (entries_of gains) (must_at gains a) (owes_at gains old a) (owes_at gains new b) place
 
 -- lemmas for the prover under one name: what is owed once what is past is dropped
-pub ruleset expired_by_place = (soft-must, goes, stays-must, take-length, empty-debts, kept-passed, expired-end, expired-rising, expired-start, none-goes)
+pub ruleset expired_by_place = (soft-must, goes, stays-must, take-length, empty-debts, entries_long, kept-start, expired-end, expired-rising, expired-start, none-goes)

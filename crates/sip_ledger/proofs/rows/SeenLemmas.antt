@@ -1,10 +1,11 @@
 -- Accounts as contracts see them: a list of what each row owes, and the messages that rows owe.
-use Rattle.sip_ledger.proofs.Words.{◌≡◌, ℕ, ◌+◌, ◌<◌, ◌≤◌, ◌==◌, true, false, List, [], ◌∷◌, ◌++◌, length, get_or, map, refl, sym, ap, ◌∙◌, subst, inl, inr, arith, nat_tests, All, Contains, list_any, and-true, cases_eq, cases_lt, eqb-true, false_from_ne_true, le-leb, true≢false, append_assoc, get_or_append_left, get_or_default, get_or_push, length_push, All-map, Contains-append_left, Contains-push, Contains-push_cases, list_any_at, list_any_none, All-cons, All-nil, Debt, Account, Gains, Strike, AppendsOwed, owes_message, some_owes, is_payable, Rise, account_debts, accounts_debts, entries_of, entry_at, must_at, owes_at, holds, common_steps, ◌≢◌, take, set, IsTrue, Option, Some, None, IfSome, IfNone, Result, Ok, Err, IsErr, OnErr, ◌↔◌, is_err, is_some, eq-eqb, drop_min, All-weaker, sum_by-cons, debts_print, owed_in, softened_account, softened_debt, debt_deadlines, earliest, filter, IsNextGain, AreAccounts, AreGains, IsAccount, IsFirstPayable, KeepsAccounts, pays_at, map-append, All-push, ◌^◌}
-use Rattle.sip_ledger.proofs.debts.ListedLemmas.{front-same, listed-each, listed-front, listed-same, listed-softened}
-use Rattle.sip_ledger.proofs.account.AccountLemmas.{debts_length, row-debts, changed, empty-debts, kept-all, must-below, over, owed-within, past-end, row-account, truncated, without-first_rows}
-use Rattle.sip_ledger.proofs.gains.LeftLemmas.{held_left, owed-left, entries_long}
+use Rattle.sip_ledger.proofs.Words.{◌≡◌, ℕ, ◌+◌, ◌<◌, ◌≤◌, ◌==◌, true, false, List, [], ◌∷◌, ◌++◌, length, get_or, map, refl, sym, ap, ◌∙◌, arith, nat_tests, All, Contains, list_any, and-true, cases_eq, cases_lt, eqb-true, false_from_ne_true, le-leb, true≢false, append_assoc, get_or_append_left, get_or_default, get_or_push, length_push, All-get_or, All-map, Contains-append_left, Contains-push, Contains-push_cases, list_any_at, list_any_none, All-cons, All-nil, Debt, Account, Gains, Strike, AppendsOwed, owes_message, some_owes, is_payable, Rise, account_debts, accounts_debts, entries_of, entry_at, must_at, owes_at, holds, common_steps, ◌≢◌, take, set, IsTrue, Option, Some, None, IfSome, IfNone, Result, Ok, Err, IsErr, OnErr, ◌↔◌, is_err, is_some, eq-eqb, drop_min, All-weaker, sum_by-cons, debts_print, owed_in, softened_account, softened_debt, debt_deadlines, earliest, IsNextGain, AreAccounts, AreGains, IsAccount, IsFirstPayable, KeepsAccounts, pays_at, map-append, map-set, All-push, All-set, ◌^◌}
+use Rattle.sip_ledger.proofs.debts.ListedLemmas.{listed-each, listed-few, listed-softened}
+use Rattle.sip_ledger.proofs.account.AccountLemmas.{kept-start, debts_length, row-debts, empty-debts, kept-all, must-below, owed-within, row-account, truncated, without-first_rows}
+use Rattle.sip_ledger.proofs.gains.LeftLemmas.{entries_long, held_left, owed-left}
 use Rattle.sip_ledger.proofs.debts.OwedLemmas.{listed-any, some-debt}
 use Rattle.sip_ledger.proofs.account.FindLemmas.{unpaid-account}
+use Rattle.sip_ledger.proofs.account.ToldLemmas.{told-start}
 
 -- what holds is said of an answer that is an error
 pub on-error : {T E P : Type 0} (r : Result T E) → IsErr r → P → OnErr r P
@@ -30,6 +31,15 @@ module _ {gains : Gains} {strikes : List Strike} {rows : List Account} {seen : L
       let debts = row-debts gains strikes rows row a within is in
       grind (arith, row-account, debts)
 
+  -- a row owes no more debts than were gained
+  pub row-few : (row : ℕ) → AreAccounts gains strikes rows → accounts_debts gains strikes rows ≡ seen → row < length seen → length (owed_in seen row) < 2 ^ 64
+  unfolding account_debts
+  row-few row are view inside =
+      -- `none` stands for no account
+      let none : Account = record { start = 0; end = 0; soft = 0; first = 0; last = 0; print = 0 } in
+      let at = account-at row (get_or rows row none) are view inside (get_or_default rows row none (get_or rows row none) (row-inside row are view inside)) in
+      grind (arith, at, listed-few, entries_long)
+
   -- the account of a row, alone, is seen as what the row owes
   pub alone : (row : ℕ) (a : Account) → AreAccounts gains strikes rows → accounts_debts gains strikes rows ≡ seen → row < length seen → a ≡ get_or rows row a →
       AreAccounts gains strikes (a ∷ []) × (accounts_debts gains strikes (a ∷ []) ≡ owed_in seen row ∷ [])
@@ -42,7 +52,8 @@ module _ {gains : Gains} {strikes : List Strike} {rows : List Account} {seen : L
   pub changed-to : (new : List Strike) (row : ℕ) (a : Account) (debts : List Debt) → take (length strikes) new ≡ strikes →
       AreAccounts gains strikes rows → accounts_debts gains strikes rows ≡ seen → IsAccount gains new a → account_debts gains new a ≡ debts →
       AreAccounts gains new (set rows row a) × (accounts_debts gains new (set rows row a) ≡ set seen row debts)
-  changed-to new row a debts kept are view is owes = let all = changed gains strikes new rows row a kept are is in grind (arith, all)
+  unfolding accounts_debts
+  changed-to new row a debts kept are view is owes = grind (arith, kept-all gains strikes new rows kept, All-set (IsAccount gains new) rows row a is, map-set)
 
   -- where an account of a row becomes one whose debts are its by f, contracts see the row changed by f
   pub changed-by : (f : List Debt → List Debt) (new : List Strike) (row : ℕ) (a b : Account) → take (length strikes) new ≡ strikes →
@@ -60,7 +71,7 @@ module _ {gains : Gains} {strikes : List Strike} {rows : List Account} {seen : L
   -- where the gains may have grown, contracts see the same rows
   pub over-to : (new : Gains) → KeepsAccounts gains new → AreGains new → AreAccounts gains strikes rows → accounts_debts gains strikes rows ≡ seen →
       AreAccounts new strikes rows × (accounts_debts new strikes rows ≡ seen)
-  over-to new keeps gained are view = grind (arith, over)
+  over-to new keeps gained are view = let all = keeps.each strikes rows are.each in (record { gained = gained; each = all.0 }, all.1 ∙ view)
 
   -- where an account is put after the others, contracts see one row more
   pub pushed-to : (a : Account) (debts : List Debt) → AreAccounts gains strikes rows →
@@ -69,32 +80,19 @@ module _ {gains : Gains} {strikes : List Strike} {rows : List Account} {seen : L
   unfolding accounts_debts
   pushed-to a debts are view is owes = grind (arith, nat_tests, common_steps, All-push, map-append)
 
--- a softened account owes the same at each place
-soft-owes : (gains : Gains) (strikes : List Strike) (a : Account) (place k : ℕ) →
-    owes_at gains strikes (softened_account place a) k ≡ owes_at gains strikes a k
-unfolding owes_at
-soft-owes gains strikes a place k = refl
-
 -- the debts of a softened account are the softened ones
-soft-debts : (gains : Gains) (strikes : List Strike) (a : Account) (place : ℕ) → place ≤ length (entries_of gains) → a.end ≤ place →
+soft-debts : (gains : Gains) (strikes : List Strike) (a : Account) (place : ℕ) → a.end ≤ place →
     account_debts gains strikes (softened_account place a) ≡ map softened_debt (account_debts gains strikes a)
-unfolding account_debts
-soft-debts gains strikes a place within end =
-    let b = softened_account place a in
-    let e = entries_of gains in
-    let o = owes_at gains strikes a in
-    -- nothing is owed from the place on
-    let last : (k : ℕ) → place ≤ k → o k ≡ false = λ k past. past-end gains strikes a k (omega (arith, end, past)) in
-    listed-front (owes_at gains strikes b) (must_at gains b) e place within (λ k past. soft-owes gains strikes a place k ∙ last k past)
-    ∙ front-same (owes_at gains strikes b) (must_at gains b) o (λ _. false) e place within (λ k below. (soft-owes gains strikes a place k, sym (must-below gains b k below)))
-    ∙ sym (listed-front o (λ _. false) e place within last)
-    ∙ listed-softened o (must_at gains a) (λ _. false) 0 e (λ _. refl)
+unfolding account_debts owes_at
+soft-debts gains strikes a place end =
+    listed-softened (owes_at gains strikes a) (must_at gains a) (must_at gains (softened_account place a)) 0 (entries_of gains)
+    (λ k owed. sym (must-below gains (softened_account place a) k (omega (arith, owed-within gains strikes a k owed, end))))
 
 -- a softened account is an account, and has the softened debts
 pub softened-account : (gains : Gains) (strikes : List Strike) (a : Account) (place : ℕ) → place ≤ length (entries_of gains) → a.end ≤ place → IsAccount gains strikes a →
     IsAccount gains strikes (softened_account place a) × (account_debts gains strikes (softened_account place a) ≡ map softened_debt (account_debts gains strikes a))
-unfolding debts_print
-softened-account gains strikes a place within end is = grind (arith, nat_tests, soft-debts, soft-owes, common_steps, sum_by-cons)
+unfolding debts_print owes_at
+softened-account gains strikes a place within end is = grind (arith, nat_tests, soft-debts, common_steps, sum_by-cons)
 
 -- where no debt must be sent, the softened ones are the same
 softened-same : (debts : List Debt) → earliest (debt_deadlines debts) ≡ None → map softened_debt debts ≡ debts
@@ -129,7 +127,10 @@ can-pay gains strikes a message t (Some place) is some none = grind (arith, nat_
 can-pay gains strikes a message t None is some none = grind (arith, nat_tests, list_any_none, All-weaker, false_from_ne_true, unpaid-account)
 
 -- lemmas for the prover under one name: what contracts see of rows, by their accounts
-pub ruleset of_rows = (debts_length, account-at, can-pay, truncated, on-err, on-error, over-to, unchanged, without-first_rows, drop_min)
+pub ruleset of_rows = (debts_length, account-at, alone, can-pay, truncated, on-err, on-error, over-to, unchanged, without-first_rows, drop_min)
+
+-- lemmas for the prover under one name: what a row owes first
+pub ruleset first_of_rows = (account-at, debts_length, empty-debts, entries_long, kept-start, told-start)
 
 -- a send at moment 0 can pay each debt of its message
 pub payable-owes : (message : ℕ) (debts : List Debt) → list_any (is_payable message 0) debts ≡ owes_message message debts
@@ -149,20 +150,15 @@ unfolding accounts_debts
 named-nowhere gains strikes rows message none =
     list_any_none (owes_message message) (map (account_debts gains strikes) rows) (All-map (λ owes. owes_message message owes ≡ false) (account_debts gains strikes) rows none)
 
--- an account owes nothing of a message of which nothing is left
-unleft-account : (gains : Gains) (strikes : List Strike) (a : Account) (message : ℕ) → ((k : ℕ) → holds gains.messages message k ≡ false) →
-    owes_message message (account_debts gains strikes a) ≡ false
-unfolding account_debts
-unleft-account gains strikes a message none =
-    list_any_none (λ (d : Debt). d.message == message) (account_debts gains strikes a)
-    (listed-each (λ (debt : Debt). (debt.message == message) ≡ false) (owes_at gains strikes a) (must_at gains a) (entries_of gains) (λ k below owed.
-    false_from_ne_true ((entry_at (entries_of gains) k).message == message) (λ is.
-    true≢false (sym (held_left gains message k (eqb-true (entry_at (entries_of gains) k).message message is) ∙ owed-left gains strikes a k owed) ∙ none k))))
-
 -- a message of which nothing is left is owed by none of the accounts
 pub unleft-unnamed : (gains : Gains) (strikes : List Strike) (rows : List Account) (message : ℕ) → ((k : ℕ) → holds gains.messages message k ≡ false) →
     some_owes message (accounts_debts gains strikes rows) ≡ false
-unleft-unnamed gains strikes rows message none = named-nowhere gains strikes rows message (λ k d below. unleft-account gains strikes (get_or rows k d) message none)
+unfolding account_debts
+unleft-unnamed gains strikes rows message none = named-nowhere gains strikes rows message (λ k d below.
+    let a = get_or rows k d in
+    list_any_none (λ (debt : Debt). debt.message == message) (account_debts gains strikes a)
+    (listed-each (λ (debt : Debt). (debt.message == message) ≡ false) (owes_at gains strikes a) (must_at gains a) (entries_of gains)
+    (λ j inside owed. grind (arith, nat_tests, true≢false, held_left gains message j, owed-left gains strikes a j owed, none j))))
 
 -- the messages below one that rows owe are told
 pub record AreNamedTo (rows : List (List Debt)) (low : ℕ) (old new : List ℕ) : Type 0 where
@@ -180,50 +176,35 @@ named-past rows low message old new are order between none =
     let all : (m : ℕ) → m < message + 1 → some_owes m rows ≡ true → Contains are.names m = λ m early is. grind (arith, nat_tests, cases_lt, cases_eq, true≢false, are.all m, between m) in
     record { names = are.names; whole = are.whole; rise = are.rise; below = λ m there. grind (arith, are.below m there); owed = are.owed; all = all }
 
--- numbers rise with one more that is above all of them
-rise-more : (names : List ℕ) (low message : ℕ) → Rise names → ((m : ℕ) → Contains names m → m < low) → low ≤ message → Rise (names ++ message ∷ [])
-rise-more names low message rise below order = λ i k early late.
-    let within = λ (i : ℕ) (low : i < length names). below (get_or names i 0) (i, low, get_or_default names i (get_or names i 0) 0 low) in
-    grind (arith, nat_tests, cases_lt, get_or_append_left, length_push, get_or_push, rise i k, within i)
-
 -- AreNamedTo goes on with the next message that is owed, once it is told
 pub named-more : (rows : List (List Debt)) (low message : ℕ) (old new now : List ℕ) → AreNamedTo rows low old new → low ≤ message →
     ((m : ℕ) → low ≤ m → m < message → some_owes m rows ≡ false) → some_owes message rows ≡ true → now ≡ new ++ message ∷ [] → AreNamedTo rows (message + 1) old now
 named-more rows low message old new now are order between some is = record {
   names = are.names ++ message ∷ [];
   whole = is ∙ ap (λ l. l ++ message ∷ []) are.whole ∙ append_assoc old are.names (message ∷ []);
-  rise = rise-more are.names low message are.rise are.below order;
+  -- the numbers rise with one more that is above all of them
+  rise = λ i k early late.
+      let within = λ (i : ℕ) (low : i < length are.names). are.below (get_or are.names i 0) (i, low, get_or_default are.names i (get_or are.names i 0) 0 low) in
+      grind (arith, nat_tests, cases_lt, get_or_append_left, length_push, get_or_push, are.rise i k, within i);
   below = λ m there. grind (arith, Contains-push_cases are.names message m there, are.below m);
   owed = λ m there. grind (arith, Contains-push_cases are.names message m there, are.owed m);
   -- what is owed below the message was told before, what is owed of it is told now, and between the two nothing is owed
-  all = λ m early owed. elim (cases_lt m low) [
-    | inl first ↦ Contains-append_left are.names (message ∷ []) m (are.all m first owed)
-    | inr later ↦ elim (cases_eq m message) [
-      | inl here ↦ subst (Contains (are.names ++ message ∷ [])) (sym here) (Contains-push are.names message)
-      | inr other ↦ absurd (true≢false (sym owed ∙ between m later (omega (arith, early, other))))
-    ]
-  ];
+  all = λ m early owed. grind (arith, nat_tests, cases_lt, cases_eq, true≢false, Contains-append_left are.names (message ∷ []) m, Contains-push are.names message, are.all m, between m);
 }
 
 -- where no message from `low` on is owed, all that are owed are told
 pub named-all : (rows : List (List Debt)) (low : ℕ) (old new : List ℕ) → AreNamedTo rows low old new → ((m : ℕ) → low ≤ m → some_owes m rows ≡ false) → AppendsOwed rows old new
 named-all rows low old new are none = grind (arith, nat_tests, cases_lt, true≢false)
 
--- where what is left of messages lies between two numbers, the messages of what an account owes do
-spanned-account : (gains : Gains) (strikes : List Strike) (a : Account) (low high : ℕ) → ((m k : ℕ) → holds gains.messages m k ≡ true → (low ≤ m) × (m ≤ high)) →
-    All (λ (debt : Debt). (low ≤ debt.message) × (debt.message ≤ high)) (account_debts gains strikes a)
-unfolding account_debts
-spanned-account gains strikes a low high within =
-    listed-each (λ (debt : Debt). (low ≤ debt.message) × (debt.message ≤ high)) (owes_at gains strikes a) (must_at gains a) (entries_of gains)
-    (λ k below owed. within (entry_at (entries_of gains) k).message k (held_left gains (entry_at (entries_of gains) k).message k refl ∙ owed-left gains strikes a k owed))
-
 -- where what is left of messages lies between two numbers, the messages of all that rows owe do
 pub spanned : (gains : Gains) (strikes : List Strike) (rows : List Account) (low high : ℕ) → ((m k : ℕ) → holds gains.messages m k ≡ true → (low ≤ m) × (m ≤ high)) →
     All (All (λ (debt : Debt). (low ≤ debt.message) × (debt.message ≤ high))) (accounts_debts gains strikes rows)
-unfolding accounts_debts
+unfolding account_debts accounts_debts
 spanned gains strikes rows low high within =
-    All-map (All (λ (debt : Debt). (low ≤ debt.message) × (debt.message ≤ high))) (account_debts gains strikes) rows
-    (λ k d below. spanned-account gains strikes (get_or rows k d) low high within)
+    All-map (All (λ (debt : Debt). (low ≤ debt.message) × (debt.message ≤ high))) (account_debts gains strikes) rows (λ k d below.
+    let a = get_or rows k d in
+    listed-each (λ (debt : Debt). (low ≤ debt.message) × (debt.message ≤ high)) (owes_at gains strikes a) (must_at gains a) (entries_of gains)
+    (λ j inside owed. within (entry_at (entries_of gains) j).message j (held_left gains (entry_at (entries_of gains) j).message j refl ∙ owed-left gains strikes a j owed)))
 
 -- lemmas for the prover under one name: what is named, message by message
-pub ruleset named_by_message = (named-all, named-more, named-past, unleft-unnamed, payable-owes, can-pay, named-here)
+pub ruleset named_by_message = (named-all, named-more, named-past, unleft-unnamed, payable-owes, can-pay, named-here, named-nowhere, All-get_or, get_or_default)

@@ -1,7 +1,7 @@
 -- Which gains the strikes of an account strike, once strikes are longer, written anew or looked for, and gains are let go: m is a message, and k a place.
 -- sm is the message of a strike, and mp that of the gain at a place.
-use Rattle.sip_ledger.proofs.Words.{◌≡◌, ◌≢◌, ℕ, zero, suc, ◌+◌, ◌-◌, ◌<◌, ◌≤◌, ◌==◌, ◌&&◌, ◌||◌, Bool, true, false, List, [], ◌∷◌, ◌++◌, length, take, drop, get_or, set, filter, refl, sym, ap, ap₂, ◌∙◌, subst, arith, nat_le, nat_lt, list_any, or-false, or_assoc, true≢false, nat_tests, list_any-append, list_any_at, take-append_seam, drop-append_seam, drop-append-le, drop-set-add, get_or_default, get_or-drop, length-drop, take-append-le, take-set-le, take_more, Account, Strike, Gains, IsWritten, Lengthens, Reaches, StrikeToo, entries_of, entry_at, is_left, is_struck, strikes_of, is_out, All, cases_eq, cases_lt, All-push, All-weaker, AreGains, AreKept, IsClearedTo, IsDropped, IsLetGo, StartFrom, owes_at, common_steps, map, max, min, false_from_ne_true, or_parts, append_assoc, map-append, All-get_or, All-nil, AreAppended, AreMoved, AreStruckToo, IsAccount, IsMoved, StrikesNoneFrom, account_debts, accounts_debts, holds}
-use Rattle.sip_ledger.proofs.gains.LeftLemmas.{held_left, gone-same}
+use Rattle.sip_ledger.proofs.Words.{◌≡◌, ◌≢◌, ℕ, zero, suc, ◌+◌, ◌-◌, ◌<◌, ◌≤◌, ◌==◌, ◌&&◌, ◌||◌, Bool, true, false, List, [], ◌∷◌, ◌++◌, length, take, drop, get_or, set, filter, refl, sym, ap, ap₂, ◌∙◌, subst, arith, nat_le, nat_lt, list_any, or-false, or_assoc, true≢false, nat_tests, list_any-append, list_any_at, take-append_seam, drop-append_seam, drop-append-le, drop-set-add, get_or_default, get_or-drop, length-drop, take-append-le, take-set-le, take_more, Account, Strike, Gains, IsWritten, Lengthens, Reaches, StrikeToo, entries_of, entry_at, is_left, is_struck, strikes_of, is_out, All, cases_eq, cases_lt, All-push, All-weaker, AreGains, AreKept, IsClearedTo, IsDropped, IsLetGo, StartFrom, owes_at, common_steps, map, max, false_from_ne_true, or_parts, append_assoc, map-append, All-get_or, All-nil, AreAppended, AreMoved, AreStruckToo, IsAccount, IsMoved, StrikesNoneFrom, account_debts, accounts_debts, holds}
+use Rattle.sip_ledger.proofs.gains.LeftLemmas.{held_left}
 use Rattle.sip_ledger.proofs.account.AccountLemmas.{OwesAlike, dropped-alike, let_go-alike, over-all, past-end, kept-all, soft-must}
 use Rattle.sip_ledger.proofs.account.WithoutLemmas.{before-start}
 use Rattle.sip_ledger.proofs.debts.ListedLemmas.{listed-same}
@@ -27,42 +27,26 @@ any-set p q [] at s within same = grind arith
 any-set p q (x ∷ xs) zero s within same = grind arith
 any-set p q (x ∷ xs) (suc at) s within same = grind (arith, any-set p q xs at s)
 
--- where no strike passes, none passes after one that does not pass took the place of another
-none-set : (p : Strike → Bool) (xs : List Strike) (at : ℕ) (s : Strike) → p s ≡ false → list_any p xs ≡ false → list_any p (set xs at s) ≡ false
-none-set p [] at s not none = refl
-none-set p (x ∷ xs) zero s not none = grind arith
-none-set p (x ∷ xs) (suc at) s not none = grind (arith, none-set p xs at s)
-
--- a strike that is made longer up to a place strikes the gain there too, and nothing else that is left
-longer-out : (m mp sm from to place k : ℕ) → sm ≡ mp → from ≤ place → to ≤ place → (to ≤ k → k < place → m ≢ mp) → (k ≡ place → m ≡ mp) →
-    (sm == m && (nat_le from k && nat_lt k (place + 1))) ≡ ((sm == m && (nat_le from k && nat_lt k to)) || k == place)
-longer-out m mp sm from to place k is low high between here = grind (arith, nat_tests)
-
 -- a strike strikes nothing at its end or after it
 pub struck-by_end : (m k sm from to : ℕ) → to ≤ k → (sm == m && (nat_le from k && nat_lt k to)) ≡ false
 struck-by_end m k sm from to past = grind (arith, nat_tests)
 
--- where a strike is made longer by the place that it reaches, it strikes the gain there too, and no other that is left
-pub lengthened : (gains : Gains) (place k : ℕ) (old : List Strike) (at : ℕ) (s : Strike) → at < length old → Reaches gains place (get_or old at s) → is_left gains k ≡ true →
-    is_struck (set old at (record { message = (get_or old at s).message; from = (get_or old at s).from; to = place + 1 })) (entry_at (entries_of gains) k).message k
-    ≡ (is_struck old (entry_at (entries_of gains) k).message k || k == place)
+-- where a strike is made longer up to a place, its message is struck from its old end up to there too
+lengthened : (place m k : ℕ) (old : List Strike) (at : ℕ) (s : Strike) → at < length old → (get_or old at s).to ≤ place →
+    is_struck (set old at (record { message = (get_or old at s).message; from = (get_or old at s).from; to = place + 1 })) m k
+    ≡ (is_struck old m k || is_out m k (record { message = (get_or old at s).message; from = max (get_or old at s).from (get_or old at s).to; to = place + 1 }))
 unfolding is_struck
-lengthened gains place k old at s within reaches left =
-    let m = (entry_at (entries_of gains) k).message in
-    let mp = (entry_at (entries_of gains) place).message in
+lengthened place m k old at s within low =
     let was = get_or old at s in
-    -- the strike that is one longer covers what it did, and the place that it reached
     let longer : Strike = record { message = was.message; from = was.from; to = place + 1 } in
-    any-set (is_out m k) (k == place) old at longer within
-    (longer-out m mp was.message was.from was.to place k reaches.message reaches.from reaches.to (λ above below same. true≢false (sym (held_left gains mp k same ∙ left) ∙ reaches.between k above below))
-    (λ is. ap (λ n. (entry_at (entries_of gains) n).message) is)
-    ∙ ap (λ w. is_out m k w || k == place) (get_or_default old at s longer within))
+    any-set (is_out m k) (is_out m k (record { message = was.message; from = max was.from was.to; to = place + 1 })) old at longer within
+    (grind (arith, nat_tests, get_or_default old at s longer within))
 
--- where a strike is made longer up to a place, nothing more is struck after the place
-pub lengthened-bound : (gains : Gains) (place m k : ℕ) (old : List Strike) (at : ℕ) (s : Strike) → place < k → is_struck old m k ≡ false →
-    is_struck (set old at (record { message = (get_or old at s).message; from = (get_or old at s).from; to = place + 1 })) m k ≡ false
-unfolding is_struck
-lengthened-bound gains place m k old at s past none = grind (arith, none-set, struck-by_end)
+-- from the end of a strike up to the place that it reaches, only the gain at that place is left of its message
+longer-there : (gains : Gains) (place k : ℕ) (s : Strike) → Reaches gains place s → is_left gains k ≡ true →
+    is_out (entry_at (entries_of gains) k).message k (record { message = s.message; from = max s.from s.to; to = place + 1 }) ≡ (k == place)
+longer-there gains place k s reaches left =
+    let mp = (entry_at (entries_of gains) place).message in grind (arith, nat_tests, true≢false, held_left gains mp k, reaches.between k, cases_eq)
 
 -- strikes with one more strike what they struck and what the new one strikes
 pub struck-push : (xs : List Strike) (s : Strike) (m k : ℕ) → is_struck (xs ++ s ∷ []) m k ≡ (is_struck xs m k || is_out m k s)
@@ -72,17 +56,6 @@ struck-push xs s m k = list_any-append (is_out m k) xs (s ∷ []) ∙ ap (λ b. 
 -- one strike more strikes what the others did, and what it strikes itself
 pub struck-next : (xs : List Strike) (at m k : ℕ) (d : Strike) → at < length xs → is_struck (take (at + 1) xs) m k ≡ (is_struck (take at xs) m k || is_out m k (get_or xs at d))
 struck-next xs at m k d within = ap (λ l. is_struck l m k) (take_more xs at d within) ∙ struck-push (take at xs) (get_or xs at d) m k
-
--- where a strike of one place is put after the others, the gain there is struck too, and no other
-added : (gains : Gains) (place k : ℕ) (old : List Strike) →
-    is_struck (old ++ (record { message = (entry_at (entries_of gains) place).message; from = place; to = place + 1 }) ∷ []) (entry_at (entries_of gains) k).message k
-    ≡ (is_struck old (entry_at (entries_of gains) k).message k || k == place)
-added gains place k old = grind (arith, nat_tests, struck-push)
-
--- where a strike of one place is put after the others, nothing more is struck after the place
-added-bound : (m mp place k : ℕ) (old : List Strike) → place < k → is_struck old m k ≡ false →
-    is_struck (old ++ (record { message = mp; from = place; to = place + 1 }) ∷ []) m k ≡ false
-added-bound m mp place k old past none = grind (arith, nat_tests, struck-push, struck-by_end)
 
 -- where one of the strikes from `first` on is made longer, they strike the gain at the place too
 pub longer-too : (gains : Gains) (place first : ℕ) (old new : List Strike) → Lengthens gains place first old new → StrikeToo gains place first old new
@@ -99,21 +72,18 @@ longer-too gains place first old new l =
     let low : i < length own = omega (arith, length-drop first old) in
     let whole : new ≡ set old (first + i) longer = grind (arith, l.longer s) in
     let rest : drop first new ≡ set own i longer = ap (drop first) whole ∙ drop-set-add first old i longer in
+    let reaches = subst (Reaches gains place) same (l.reaches s) in
     -- the strikes before `first` are as they were
     record {
       before = ap (take first) whole ∙ take-set-le first old (first + i) longer (omega arith);
-      struck = λ k left. ap (λ x. is_struck x (entry_at (entries_of gains) k).message k) rest ∙ lengthened gains place k own i s low (subst (Reaches gains place) same (l.reaches s)) left;
-      bound = λ m k past none. ap (λ x. is_struck x m k) rest ∙ lengthened-bound gains place m k own i s past none;
+      struck = λ k left. rw rest (lengthened place (entry_at (entries_of gains) k).message k own i s low reaches.to ∙ ap (λ b. is_struck own (entry_at (entries_of gains) k).message k || b) (longer-there gains place k was reaches left));
+      bound = λ m k past none. rw rest (lengthened place m k own i s low reaches.to ∙ grind (arith, nat_tests, none, struck-by_end m k was.message (max was.from was.to) (place + 1)));
     }
 
 -- where a new strike of the place is put after the others, the strikes strike the gain at the place too
 pub more-too : (gains : Gains) (place first : ℕ) (old new : List Strike) → first ≤ length old →
     new ≡ old ++ (record { message = (entry_at (entries_of gains) place).message; from = place; to = place + 1 }) ∷ [] → StrikeToo gains place first old new
-more-too gains place first old new within is = grind (arith, nat_tests, drop-append-le, take-append-le, added, added-bound)
-
--- a place lies up to `at` or is `at` exactly if it lies up to the one after `at`
-one-more : (from at k : ℕ) → from ≤ at → ((nat_le from k && nat_lt k at) || k == at) ≡ (nat_le from k && nat_lt k (at + 1))
-one-more from at k low = grind (arith, nat_tests)
+more-too gains place first old new within is = grind (arith, nat_tests, drop-append-le, take-append-le, struck-push, struck-by_end)
 
 -- IsWritten holds once the account's strikes are written
 pub written-none : (gains : Gains) (from : ℕ) (old new : List Strike) (a : Account) → new ≡ old ++ ending a.start (strikes_of old a) → IsWritten gains from from old new a
@@ -123,7 +93,7 @@ written-none gains from old new a is = grind (arith, nat_tests, drop-append_seam
 -- IsWritten goes on with the gain at the next place, where it is struck too
 pub written-more : (gains : Gains) (from at : ℕ) (old one new : List Strike) (a : Account) → IsWritten gains from at old one a → StrikeToo gains at (length old) one new → from ≤ at →
     at < length (entries_of gains) → IsWritten gains from (at + 1) old new a
-written-more gains from at old one new a w too low inside = grind (arith, nat_tests, or_assoc, one-more)
+written-more gains from at old one new a w too low inside = grind (arith, nat_tests, or_assoc, cases_eq, cases_lt)
 
 -- no strikes strike nothing
 pub none-struck : (m k : ℕ) → is_struck [] m k ≡ false
@@ -191,12 +161,12 @@ strikes-none gains place low s within none k above left =
 -- a moved account has the same debts
 moved-debts : (gains : Gains) (strikes old new : List Strike) (a b : Account) → IsMoved gains strikes old new a b → account_debts gains new b ≡ account_debts gains strikes a
 unfolding account_debts owes_at
-moved-debts gains strikes old new a b moved = grind (arith, listed-same, soft-must, nat_tests, cases_lt, before-start, gone-same)
+moved-debts gains strikes old new a b moved = grind (arith, listed-same, soft-must, nat_tests, cases_lt, before-start)
 
 -- a moved account is an account over the new strikes
 moved-account : (gains : Gains) (strikes old new : List Strike) (a b : Account) → IsMoved gains strikes old new a b → IsAccount gains strikes a → IsAccount gains new b
 unfolding owes_at
-moved-account gains strikes old new a b moved is = grind (arith, nat_tests, moved-debts, cases_lt, before-start, gone-same)
+moved-account gains strikes old new a b moved is = grind (arith, nat_tests, moved-debts, cases_lt, before-start)
 
 -- AreMoved holds of no accounts
 pub moved-none : (gains : Gains) (strikes : List Strike) (rows : List Account) → AreMoved gains strikes (take 0 rows) [] []

@@ -127,13 +127,10 @@ is_struck strikes message k = list_any (is_out message k) strikes
 abbrev pub strikes_of : List Strike → Account → List Strike
 strikes_of strikes account = from_to account.first account.last strikes
 
--- whether what was gained at place k is not owed: it is not left, or struck
-unfoldable pub is_gone : Gains → List Strike → ℕ → Bool
-is_gone gains strikes k = not (is_left gains k) || is_struck strikes (entry_at (entries_of gains) k).message k
-
--- whether the account owes what was gained at place k
+-- whether the account owes what was gained at place k: it is left, and not struck
 unfoldable pub owes_at : Gains → List Strike → Account → ℕ → Bool
-owes_at gains strikes account k = nat_le account.start k && (nat_lt k account.end && not (is_gone gains (strikes_of strikes account) k))
+owes_at gains strikes account k =
+    nat_le account.start k && (nat_lt k account.end && (is_left gains k && not (is_struck (strikes_of strikes account) (entry_at (entries_of gains) k).message k)))
 
 -- whether the account must send what was gained at place k: the index `musts` has all its places under 0
 unfoldable pub must_at : Gains → Account → ℕ → Bool
@@ -159,6 +156,12 @@ pub record IsAccount (gains : Gains) (strikes : List Strike) (account : Account)
 pub record IsWithout (place : ℕ) (owes owes' : ℕ → Bool) : Type 0 where
   pub gone : owes' place ≡ false
   pub others : (k : ℕ) → k ≢ place → owes' k ≡ owes k
+
+-- `next` is the first place from `from` on at which the account owes something, or its end
+pub record IsAfter (gains : Gains) (strikes : List Strike) (a : Account) (from next : ℕ) : Type 0 where
+  pub within : (from ≤ next) × (next ≤ a.end)
+  pub before : (k : ℕ) → from ≤ k → k < next → owes_at gains strikes a k ≡ false
+  pub is : next < a.end → owes_at gains strikes a next ≡ true
 
 -- the account, of which no gain below the place must be sent any more
 abbrev pub softened_account : ℕ → Account → Account
@@ -250,10 +253,7 @@ pub record IsWritten (gains : Gains) (from to : ℕ) (old new : List Strike) (a 
 -- b is the account a with other strikes: from its start on they strike, of what is left, what those of a do, and what was gained from one place up to
 -- another too; past the gains nothing more is struck (`bound`)
 pub record IsStruck (gains : Gains) (from to : ℕ) (old new : List Strike) (a b : Account) : Type 0 where
-  pub start : b.start ≡ a.start
-  pub end : b.end ≡ a.end
-  pub soft : b.soft ≡ a.soft
-  pub print : b.print ≡ a.print
+  pub same : b ≡ record a { first = b.first; last = b.last }
   pub first : b.first ≤ b.last
   pub last : b.last ≤ length new
   pub struck : (k : ℕ) → a.start ≤ k → is_left gains k ≡ true → is_struck (strikes_of new b) (entry_at (entries_of gains) k).message k
@@ -331,10 +331,7 @@ pub record AreAppended (gains : Gains) (from : ℕ) (strikes old new : List Stri
 -- the account, with strikes that strike the same of what is left from its start on written after others
 pub record IsMoved (gains : Gains) (strikes old new : List Strike) (a b : Account) : Type 0 where
   pub kept : take (length old) new ≡ old
-  pub start : b.start ≡ a.start
-  pub end : b.end ≡ a.end
-  pub soft : b.soft ≡ a.soft
-  pub print : b.print ≡ a.print
+  pub same : b ≡ record a { first = b.first; last = b.last }
   pub first : b.first ≤ b.last
   pub last : b.last ≤ length new
   pub own : AreThinned gains a.start (strikes_of strikes a) (strikes_of new b)

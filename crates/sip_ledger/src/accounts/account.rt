@@ -1,10 +1,10 @@
 //! What one row owes of what was gained.
 ghost use Rattle.std.specs.Prelude.{◌≡◌, ◌≢◌, ◌↔◌, ◌<◌, ◌≤◌, ◌*◌, ◌%◌, ◌^◌, ◌++◌, ◌∷◌, ◌+◌};
-ghost use Rattle.sip_ledger.specs.inner.Words.{[], ℕ, Bool, true, false, Some, IfOk, IfSome, IfNone, IsTrue, OnOk, OnErr, bit_xor, filter, length, option_to_list, take, OnTrue, counts_at, debt_deadlines, earliest, is_timely, paid_by, worth_of, debt_of, Account, AreGains, IsAccount, IsExpiredTo, IsFirstPaying, IsFirstPayable, IsGainAt, IsUndropped, IsNextGain, IsPlaceOf, IsSeek, IsStruck, IsWithout, KeepsAccounts, SharesNext, account_debts, entries_of, entry_at, is_gone, is_struck, must_at, owes_at, pays_at, softened_account, sooner, strikes_of, count_under, holds};
+ghost use Rattle.sip_ledger.specs.inner.Words.{[], ℕ, Bool, true, false, Some, IfOk, IfSome, IfNone, IsTrue, OnOk, OnErr, bit_xor, filter, length, option_to_list, take, OnTrue, counts_at, debt_deadlines, earliest, is_timely, paid_by, worth_of, debt_of, Account, AreGains, IsAccount, IsAfter, IsExpiredTo, IsFirstPaying, IsFirstPayable, IsGainAt, IsUndropped, IsNextGain, IsPlaceOf, IsSeek, IsStruck, IsWithout, KeepsAccounts, SharesNext, account_debts, entries_of, entry_at, is_struck, must_at, owes_at, pays_at, softened_account, sooner, strikes_of, count_under, holds};
 
 use crate::accounts::gains::Gains;
 use crate::accounts::seek::Seek;
-use crate::accounts::strikes::{Strike, Strikes, first_alone, put, struck_to};
+use crate::accounts::strikes::{Strike, Strikes, are_same, first_alone, put, struck_to};
 use crate::debt::Debt;
 use crate::index::Index;
 use std::alloc::{AllocError, Global};
@@ -74,9 +74,7 @@ fn next(gains: &Gains, strikes: &[Strike], account: Account, from: usize) -> usi
     requires gained { AreGains gains.now }
     requires account { IsAccount gains.now strikes.now account }
     requires from { from ≤ account.end }
-    ensures within { (from ≤ result) × (result ≤ account.end) }
-    ensures before { (k : ℕ) → from ≤ k → k < result → owes_at gains.now strikes.now account k ≡ false }
-    ensures is { result < account.end → owes_at gains.now strikes.now account result ≡ true }
+    ensures { IsAfter gains.now strikes.now account from result }
 {
     let mut place = from;
     while place < account.end && !owes(gains, strikes, account, place) {
@@ -181,6 +179,7 @@ pub(crate) fn find(
 /// and the gains give those that are still owed. Both are asked in turn, so that each step goes to a greater message, and passes one that
 /// stands under the key. The search ends where nothing greater is left or was gained, or where what is found stands before all greater ones.
 /// Where it takes more than `most` steps, the answer is None.
+#[tactic(auto, using(crate::proofs::account::FindLemmas::found_under_key))]
 pub(crate) fn find_under(
     gains: &Gains,
     strikes: &[Strike],
@@ -416,6 +415,7 @@ fn takes(gains: &Gains, strikes: &[Strike], account: Account, debt: Debt, place:
 }
 
 /// The account with what was gained at the places from its end up to this one struck.
+#[tactic(auto, using(crate::proofs::account::AccountLemmas::kept_by_place))]
 fn pass_to(gains: &Gains, strikes: &mut Strikes, account: Account, place: usize) -> Made
     requires gained { AreGains gains.now }
     requires account { IsAccount gains.now strikes.old.items account }
@@ -510,6 +510,7 @@ pub(crate) fn gained_and_expired(
 }
 
 /// The least deadline of what the account must send. The first debt is looked at before the index is asked.
+#[tactic(auto, using(crate::proofs::account::ToldLemmas::led_by_start))]
 #[inline(always)]
 pub(crate) fn earliest_must(gains: &Gains, strikes: &[Strike], account: Account) -> Option<u64>
     requires gained { AreGains gains.now }
@@ -589,6 +590,7 @@ pub(crate) fn debt_for(gains: &Gains, account: Account, place: usize) -> Debt
 }
 
 /// At how many places from these on it is known that both accounts owe the same: none, where they are not one place.
+#[tactic(auto, using(crate::proofs::account::ToldLemmas::shared_by_places))]
 fn shared(
     gains: &Gains,
     strikes: &[Strike],
@@ -621,6 +623,7 @@ fn shared(
 }
 
 /// Whether two accounts owe the same.
+#[tactic(auto, using(crate::proofs::account::ToldLemmas::shared_by_places))]
 pub(crate) fn same(gains: &Gains, strikes: &[Strike], one: Account, other: Account) -> bool
     requires gained { AreGains gains.now }
     requires one { IsAccount gains.now strikes.now one }
@@ -630,7 +633,15 @@ pub(crate) fn same(gains: &Gains, strikes: &[Strike], one: Account, other: Accou
     if one.print != other.print {
         return false;
     }
-    // Both are walked side by side, from debt to debt, but for what they share.
+    // Most accounts that owe the same have the same places and the same strikes.
+    if one.start == other.start
+        && one.end == other.end
+        && one.soft == other.soft
+        && are_same(own(strikes, one), own(strikes, other))
+    {
+        return true;
+    }
+    // Others are walked side by side, from debt to debt, but for what they share.
     let mut at = one.start;
     let mut beside = other.start;
     while at < one.end && beside < other.end {
@@ -644,20 +655,25 @@ pub(crate) fn same(gains: &Gains, strikes: &[Strike], one: Account, other: Accou
     at == one.end && beside == other.end
 }
 
-/// What the account owes.
-pub(crate) fn debts(
+/// What the account owes first: this many debts, or all where it owes fewer.
+#[tactic(auto, using(crate::proofs::account::ToldLemmas::told_by_place))]
+pub(crate) fn first_debts(
     alloc: Global,
     gains: &Gains,
     strikes: &[Strike],
     account: Account,
+    most: usize,
 ) -> Result<Vec<Debt>, AllocError>
     requires gained { AreGains gains.now }
     requires account { IsAccount gains.now strikes.now account }
-    ensures { IfOk result (λ debts. debts.items ≡ account_debts gains.now strikes.now account) }
+    ensures { IfOk result (λ debts. debts.items ≡ take most (account_debts gains.now strikes.now account)) }
 {
     let mut debts = Vec::new(alloc);
     let mut place = account.start;
     while place < account.end {
+        if debts.len() == most {
+            return Ok(debts);
+        }
         debts.push(debt_for(gains, account, place))?;
         place = next(gains, strikes, account, place + 1);
     }

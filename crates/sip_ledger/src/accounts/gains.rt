@@ -41,6 +41,7 @@ pub(crate) struct Gains {
 
 impl Gains {
     /// Nothing was gained.
+    #[tactic(auto, using(crate::proofs::gains::LeftLemmas::none_entries))]
     pub(crate) fn new(alloc: Global) -> Self
         ensures gained { AreGains result }
         ensures none { entries_of result ≡ [] }
@@ -178,6 +179,7 @@ impl Gains {
     }
 
     /// Whether there is a place, and no gain that is kept up to it has a greater message than the one there.
+    #[tactic(auto, using(std::proofs::lemmas::Bool::OnTrue_from))]
     pub(crate) fn is_newest(&self, place: Option<usize>) -> bool
         requires gained { AreGains self.now }
         requires kept { IfSome place (IsUndropped self.now) }

@@ -44,6 +44,21 @@ fn strikes_out(strike: Strike, message: u64, place: usize) -> bool
     strike.message == message && strike.from <= place && place < strike.to
 }
 
+/// Whether the strikes are the same, in the same order.
+pub(crate) fn are_same(one: &[Strike], other: &[Strike]) -> bool
+    ensures { OnTrue result (one.now ≡ other.now) }
+{
+    if one.len() != other.len() {
+        return false;
+    }
+    for at in 0..one.len() {
+        if one[at] != other[at] {
+            return false;
+        }
+    }
+    true
+}
+
 /// The first place from one on, and below an end, at which a gain is left that the strike strikes and the others do not; or that end.
 fn struck_alone(gains: &Gains, strike: Strike, others: &[Strike], from: usize, end: usize) -> usize
     requires gained { AreGains gains.now }

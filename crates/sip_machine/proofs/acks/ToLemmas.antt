@@ -1,19 +1,17 @@
 -- The To that stands beside a kept message stays what it is, and tells which of the messages has a To.
-use Rattle.sip_machine.proofs.Words.{◌≡◌, ◌≢◌, ◌<◌, ◌≤◌, ◌↔◌, ◌-◌, ◌+◌, ◌&&◌, ℕ, Bool, true, false, cond, IfSome, IsTrue, Option, Some, None, bytes_eq, List, [], ◌∷◌, ◌++◌, All, AllPairs, Contains, is_some, length, map, slice_get, take, items_where_true, bytes_decides, true≢false, inl, inr, refl, sym, ◌∙◌, ap, ap₂, subst, arith, get_or, nat_tests, and-false, cases_lt, eq-eqb, ne_eqb, get_or_picked, slice_get-get_or, get_or_from_slice_get, get_or-map, get_or-take, get_or_default, length-map, length-take-le, take_all, All-contains, All-get_or, All-push, All-weaker, Contains-get_or, AllPairs-cons, AllPairs-head, AllPairs-tail, holds, same_reading, solid, Texts, IsBook, Keeps, text_of, only, To, full_hash, IsToOf, IsTo, AreTos, AreUnder, StandUnder, IsChanged, IsUnder, count_between}
+use Rattle.sip_machine.proofs.Words.{◌≡◌, ◌≢◌, ◌<◌, ◌≤◌, ◌↔◌, ◌-◌, ◌+◌, ℕ, Bool, true, false, IfSome, IsTrue, Option, Some, None, bytes_eq, List, [], ◌∷◌, ◌++◌, All, AllPairs, Contains, is_some, length, map, slice_get, take, items_where_true, bytes_decides, true≢false, sym, ◌∙◌, ap, subst, arith, get_or, nat_tests, and-false, cases_lt, ne_eqb, get_or_picked, get_or_from_slice_get, get_or-map, get_or-take, length-map, length-take-le, take_all, All-contains, All-contains_itself, All-from_retain, IsFiltered, All-get_or, All-push, All-weaker, AllPairs-cons, AllPairs-head, AllPairs-tail, holds, same_reading, solid, Texts, IsBook, Keeps, text_of, only, To, full_hash, IsToOf, IsTo, AreTos, AreUnder, StandUnder, IsChanged, IsUnder, count_between}
 use Rattle.sip_machine.proofs.texts.BesideLemmas.{among-all, count_between-is, many}
 use Rattle.sip_machine.proofs.texts.TextLaws.{Keeps-grow, text_of-grow}
 use Rattle.sip_machine.proofs.texts.RetainLemmas.{only-Keeps, text_of-only}
 
--- another text is the To of these bytes exactly if it is equal to their To
-pub IsToOf-same : (bytes to text : List ℕ) → IsToOf bytes text → IsTrue (bytes_eq text to) ↔ IsToOf bytes to
-IsToOf-same bytes to text is = (
-  λ same. subst (IsToOf bytes) ((bytes_decides text to).0 same) is,
-  λ its. (bytes_decides text to).1 (is.is ∙ ap (λ r. solid r.parts.to) (same_reading bytes is.message its.message is.reads its.reads) ∙ sym its.is),
-)
-
 -- bytes have one To
 pub IsToOf-one : (bytes to text : List ℕ) → IsToOf bytes text → IsToOf bytes to → text ≡ to
-IsToOf-one bytes to text is its = (bytes_decides text to).0 ((IsToOf-same bytes to text is).1 its)
+IsToOf-one bytes to text is its = is.is ∙ ap (λ r. solid r.parts.to) (same_reading bytes is.message its.message is.reads its.reads) ∙ sym its.is
+
+-- another text is the To of these bytes exactly if it is equal to their To
+pub IsToOf-same : (bytes to text : List ℕ) → IsToOf bytes text → IsTrue (bytes_eq text to) ↔ IsToOf bytes to
+IsToOf-same bytes to text is =
+    (λ same. subst (IsToOf bytes) ((bytes_decides text to).0 same) is, λ its. (bytes_decides text to).1 (IsToOf-one bytes to text is its))
 
 -- where the To of a kept message is put after the others, all are Tos of kept messages
 pub AreTos-push : (texts : Texts) (tos new : List To) (to : To) → IsTo texts to → AreTos texts tos → new ≡ tos ++ to ∷ [] → AreTos texts new
@@ -55,34 +53,22 @@ below a b = a.number < b.number
 abbrev pub nobody : To
 nobody = record { number = 0; text = [] }
 
--- where the last To of the list, if there is one, has a number below this one, all have
-pub below_last : (tos : List To) (number : ℕ) (last : Option To) → AllPairs (λ a b. a.number < b.number) tos → last ≡ slice_get tos (length tos - 1) →
-    IfSome last (λ to. to.number < number) → All (λ to. to.number < number) tos
-below_last [] number last up is low = λ k d within. absurd (omega arith)
-below_last (t ∷ ts) number None up is low = absurd (let e = is ∙ slice_get-get_or (t ∷ ts) (length (t ∷ ts) - 1) t (omega arith) in cc)
-below_last (t ∷ ts) number (Some last) up is low = λ k d within.
-    let tos = t ∷ ts in
-    let n = length tos - 1 in
-    let end : get_or tos n d ≡ last = get_or_default tos n d last (omega arith) ∙ get_or_from_slice_get tos n last last (sym is) in
-    -- a To before the last has a lesser number than it
-    elim (cases_lt k n) [
-      | inl before ↦ (let lt = up k n d before (omega arith) in omega (arith, lt, ap (λ to. to.number) end, low))
-      | inr there ↦ (let same : k ≡ n = omega (arith, there, within) in omega (arith, ap (λ i. (get_or tos i d).number) same ∙ ap (λ to. to.number) end, low))
-    ]
+-- each To before the last one has a lesser number than it
+before_last : (tos : List To) (last : To) → AllPairs below tos → Some last ≡ slice_get tos (length tos - 1) → (k : ℕ) (d : To) → k < length tos - 1 → (get_or tos k d).number < last.number
+before_last tos last up is k d low =
+    let lt = up k (length tos - 1) d low (omega (arith, low)) in
+    subst (λ (to : To). (get_or tos k d).number < to.number) (get_or_from_slice_get tos (length tos - 1) last d (sym is)) lt
+
+-- where the last To of the list has a number below this one, all have
+pub below_last : (tos : List To) (number : ℕ) (last : To) → AllPairs below tos → Some last ≡ slice_get tos (length tos - 1) → last.number < number → All (λ to. to.number < number) tos
+below_last tos number last up is low = λ k d within.
+    grind (arith, nat_tests, before_last tos last up is k d, get_or_from_slice_get tos (length tos - 1) last d (sym is))
 
 -- the Tos before the last one have numbers below its
-pub front_below : (tos : List To) (number : ℕ) (last : To) → AllPairs (λ a b. a.number < b.number) tos → Some last ≡ slice_get tos (length tos - 1) → last.number ≡ number →
-    All (λ to. to.number < number) (take (length tos - 1) tos)
-front_below [] number last up is same = λ k d low. absurd (omega arith)
-front_below (t ∷ ts) number last up is same = λ k d low.
-    let tos = t ∷ ts in
-    let n = length tos - 1 in
-    let size = length-take-le n tos (omega arith) in
-    let below : k < n = omega (arith, size, low) in
-    -- the last To of the list is the one with this number
-    let end : get_or tos n d ≡ last = get_or_default tos n d last (omega arith) ∙ get_or_from_slice_get tos n last last (sym is) in
-    let lt = up k n d below (omega arith) in
-    rw (get_or-take n tos k d below) (omega (arith, lt, ap (λ to. to.number) end, same))
+pub front_below : (tos : List To) (last : To) → AllPairs below tos → Some last ≡ slice_get tos (length tos - 1) → All (λ to. to.number < last.number) (take (length tos - 1) tos)
+front_below tos last up is = λ k d low.
+    let before : k < length tos - 1 = omega (arith, low, length-take-le (length tos - 1) tos (omega arith)) in
+    rw (get_or-take (length tos - 1) tos k d before) (before_last tos last up is k d before)
 
 -- what holds of all elements of a list holds of those that are picked
 pub All-picked : {X : Type 0} (P : X → Type 0) (bs : List Bool) (xs : List X) → All P xs → All P (items_where_true bs xs)
@@ -97,13 +83,19 @@ AllPairs-picked R (true ∷ bs) (x ∷ xs) up =
     AllPairs-cons R x (items_where_true bs xs) (All-picked (R x) bs xs (AllPairs-head R x xs up)) (AllPairs-picked R bs xs (AllPairs-tail R x xs up))
 AllPairs-picked R (false ∷ bs) (x ∷ xs) up = AllPairs-picked R bs xs (AllPairs-tail R x xs up)
 
--- where the Tos that are left are picked, and have these numbers, each was in the list and has one of the numbers
-pub left_over : (bs : List Bool) (tos left : List To) (numbers : List ℕ) → left ≡ items_where_true bs tos → All (λ to. Contains numbers to.number) left →
-    All (λ to. Contains tos to × Contains numbers to.number) left
-left_over bs tos left numbers is among = λ k d low.
-    let (j, j_low, at) = (get_or_picked bs tos k d (rw is at low)).1 in
-    let same : get_or left k d ≡ get_or tos j d = ap (λ xs. get_or xs k d) is ∙ at in
-    (subst (Contains tos) (sym same) (Contains-get_or tos j d j_low), among k d low)
+-- What follows is of Tos and what a test leaves of them, as `retain` leaves it.
+module _ {F : Type 0} (R : F → To → Bool → F → Type 0) (f : F) (tos left : List To) (kept : IsFiltered R f tos left) where
+  -- where the numbers of the messages rise, those of what is left do
+  pub left-rises : AllPairs below tos → AllPairs below left
+  left-rises up = subst (AllPairs below) (sym kept.4) (AllPairs-picked below kept.0 tos up)
+
+  -- where the test passes only Tos of these numbers, each that is left was there, and has one of the numbers
+  pub left-over : (numbers : List ℕ) → ((to : To) (b : Bool) (g : F) → R f to b g → (b ≡ true → Contains numbers to.number) × (g ≡ f)) →
+      All (λ to. Contains tos to × Contains numbers to.number) left
+  left-over numbers passes =
+      let some = subst (All (Contains tos)) (sym kept.4) (All-picked (Contains tos) kept.0 tos (All-contains_itself tos)) in
+      let among = All-from_retain R (λ to. Contains numbers to.number) f passes tos left kept in
+      λ k d low. (some k d low, among k d low)
 
 -- what relates each pair of a list, in order, relates each pair of its first elements
 pub AllPairs-take : {X : Type 0} (R : X → X → Type 0) (n : ℕ) (xs : List X) → AllPairs R xs → AllPairs R (take n xs)
@@ -116,9 +108,7 @@ AllPairs-take R n xs up = grind (arith, nat_tests, cases_lt, take_all, length-ta
 pub put-here : (hash number : ℕ) (old new : Option (List (ℕ × ℕ))) → IsChanged hash number true old new → IsUnder new hash number
 put-here hash number old None changed = tt
 put-here hash number None (Some new) changed = absurd changed
--- by the change, the pair that was put is there: both tests of equality pass
-put-here hash number (Some old) (Some new) changed =
-    changed hash number ∙ ap₂ (λ a b. cond (a && b) true (holds old hash number)) (eq-eqb hash hash refl) (eq-eqb number number refl)
+put-here hash number (Some old) (Some new) changed = grind (arith, nat_tests, changed hash number)
 
 -- where a number is put under a hash, what stood under a hash stands there
 pub put-keeps : (hash number : ℕ) (old new : Option (List (ℕ × ℕ))) → IsChanged hash number true old new → (h n : ℕ) → IsUnder old h n → IsUnder new h n
@@ -126,11 +116,21 @@ put-keeps hash number old None changed h n is = tt
 put-keeps hash number None (Some new) changed h n is = absurd changed
 put-keeps hash number (Some old) (Some new) changed h n is = grind (arith, nat_tests, changed h n)
 
--- where a number is taken from a hash, other numbers stand where they stood
-pub taken-keeps : (hash number : ℕ) (old new : Option (List (ℕ × ℕ))) → IsChanged hash number false old new → (h n : ℕ) → n ≢ number → IsUnder old h n → IsUnder new h n
-taken-keeps hash number old None changed h n other is = tt
-taken-keeps hash number None (Some new) changed h n other is = absurd changed
-taken-keeps hash number (Some old) (Some new) changed h n other is = grind (arith, nat_tests, changed h n, ne_eqb, and-false)
+-- where the number of a To is put under its hash, it stands there after the others, and these stand under theirs
+pub under-put : (to : To) (old new : Option (List (ℕ × ℕ))) (tos : List To) → IsChanged (full_hash to.text) to.number true old new → AreUnder old tos → AreUnder new (tos ++ to ∷ [])
+under-put to old new tos changed under =
+    All-push (λ t. IsUnder new (full_hash t.text) t.number) tos to
+    (λ k d low. put-keeps (full_hash to.text) to.number old new changed (full_hash (get_or tos k d).text) (get_or tos k d).number (under k d low))
+    (put-here (full_hash to.text) to.number old new changed)
+
+-- where a number is taken from a hash, Tos with lesser numbers stand where they stood
+pub under-taken : (hash number : ℕ) (old new : Option (List (ℕ × ℕ))) (tos : List To) → IsChanged hash number false old new → All (λ to. to.number < number) tos → AreUnder old tos → AreUnder new tos
+under-taken hash number old None tos changed lower under = λ k d low. tt
+under-taken hash number None (Some new) tos changed lower under = absurd changed
+under-taken hash number (Some old) (Some new) tos changed lower under = λ k d low.
+    let less = lower k d low in
+    let stood = under k d low in
+    grind (arith, nat_tests, changed (full_hash (get_or tos k d).text) (get_or tos k d).number, ne_eqb, and-false)
 
 -- where no hashes are kept, nothing is claimed of them
 pub none-under : (hashes : Option (List (ℕ × ℕ))) (tos : List To) → is_some hashes ≡ false → AreUnder hashes tos
@@ -152,7 +152,7 @@ numbers_kept texts tos are n (i, within, at) =
     subst (Keeps texts) (sym (get_or-map (λ to. to.number) tos i nobody n low) ∙ at) its.kept
 
 -- What follows is of the kept messages with numbers from `low` up to `high`, where as many Tos with such numbers are in the list.
-module _ (texts : Texts) (tos : List To) (low high : ℕ) (book : IsBook texts) (are : AreTos texts tos) (up : AllPairs (λ a b. a.number < b.number) tos)
+module _ (texts : Texts) (tos : List To) (low high : ℕ) (book : IsBook texts) (are : AreTos texts tos) (up : AllPairs below tos)
     (as_many : count_between low high (map (λ k. k.0) texts) ≡ count_between low high (map (λ to. to.number) tos)) where
   -- each kept message with a number from low up to high has its To in the list
   beside : (number : ℕ) → Keeps texts number → low ≤ number → number ≤ high → (i : ℕ) × (i < length tos) × ((get_or tos i nobody).number ≡ number)
@@ -165,25 +165,15 @@ module _ (texts : Texts) (tos : List To) (low high : ℕ) (book : IsBook texts) 
       (numbers_kept texts tos are) as_few number kept from to in
       (i, rw length-map at within, sym (get_or-map (λ to. to.number) tos i nobody number (rw length-map at within)) ∙ at)
 
-  -- a kept message with this To, whose number is from low up to high, has it in the list
-  owner : (number : ℕ) (text : List ℕ) → Keeps texts number → low ≤ number → number ≤ high → IsToOf (text_of texts number) text →
-      (i : ℕ) × (i < length tos) × ((get_or tos i nobody).number ≡ number) × ((get_or tos i nobody).text ≡ text)
-  owner number text kept from to is =
-      let (i, within, at) = beside number kept from to in
-      -- the To that stands there is the message's one To
-      let its = All-get_or (IsTo texts) tos i nobody within are.each in
-      let same = IsToOf-one (text_of texts number) text (get_or tos i nobody).text (subst (λ n. IsToOf (text_of texts n) (get_or tos i nobody).text) at its.text) is in
-      (i, within, at, same)
-
-  -- where each To of the list stands under its hash, that of each kept message does
-  stand_under : (pairs : List (ℕ × ℕ)) → AreUnder (Some pairs) tos → StandUnder texts low high pairs
-  stand_under pairs under = λ number text kept from to is.
-      let (i, within, at, same) = owner number text kept from to is in
-      let stands = All-get_or (λ to. IsUnder (Some pairs) (full_hash to.text) to.number) tos i nobody within under in
-      subst (λ words. holds pairs (full_hash words) number ≡ true) same (subst (λ n. holds pairs (full_hash (get_or tos i nobody).text) n ≡ true) at stands)
-
   -- what is told of the messages of the list is told of the kept messages
   pub stand_told : {V : Type 0} (pairs : V → List (ℕ × ℕ)) (r : Option V) → IfSome r (λ hashes. AreUnder (Some (pairs hashes)) tos) →
       IfSome r (λ hashes. StandUnder texts low high (pairs hashes))
-  stand_told pairs (Some hashes) told = stand_under (pairs hashes) told
-  stand_told pairs None told = tt
+  stand_told pairs None under = tt
+  stand_told pairs (Some hashes) under = λ number text kept from to is.
+      let (i, within, at) = beside number kept from to in
+      let there = get_or tos i nobody in
+      -- the To that stands there is the message's one To, and stands under its hash
+      let its = All-get_or (IsTo texts) tos i nobody within are.each in
+      let same = IsToOf-one (text_of texts number) text there.text (subst (λ n. IsToOf (text_of texts n) there.text) at its.text) is in
+      let stands = All-get_or (λ to. IsUnder (Some (pairs hashes)) (full_hash to.text) to.number) tos i nobody within under in
+      subst (λ words. holds (pairs hashes) (full_hash words) number ≡ true) same (subst (λ n. holds (pairs hashes) (full_hash there.text) n ≡ true) at stands)

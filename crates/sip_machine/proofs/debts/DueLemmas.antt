@@ -1,39 +1,6 @@
 -- What many states owe: what a send takes out of the debts of one state, and states that owe nothing.
 use Prim.Native.Nat.{suc, zero}
-use Rattle.std.specs.Prelude.{◌≡◌, ◌<◌, ◌≤◌, ◌-◌, ◌||◌, ℕ, Bool, true, false, IsTrue, List, [], ◌∷◌, ◌++◌, All, filter, length, min, set, take}
-use Rattle.std.specs.List.{list_any}
-use Rattle.std.proofs.Common.{refl, sym, ◌∙◌, ap, ap₂, subst, arith, cond, true≢false}
-use Rattle.std.proofs.lemmas.List.Elements.{All-nil, All-cons, filter-append}
-use Rattle.std.proofs.lemmas.List.{get_or-set_same, set-get_or}
-use Rattle.sip_ledger.specs.declared.debt.Debt.{Debt}
-use Rattle.sip_ledger.specs.Debts.{counts_at, is_payable, paid_by}
-use Rattle.sip_standard.specs.Debts.{IsWithoutFirst}
-use Rattle.sip_machine.specs.Owes.{owed_in}
-use Rattle.sip_machine.specs.inner.Dues.{blank_rows}
-
--- what is not true is false
-is_false : (b : Bool) → ¬ (b ≡ true) → b ≡ false
-is_false true never = absurd (never refl)
-is_false false never = refl
-
--- What follows is of the payment of a debt.
-
--- a send leaves a debt that it cannot pay, and pays what it can of those after it
-pub unpaid-front : (message t : ℕ) (debt : Debt) (debts : List Debt) → ¬ (IsTrue (is_payable message t debt)) → paid_by message t (debt ∷ debts) ≡ debt ∷ paid_by message t debts
-unpaid-front message t debt debts unpaid = ap (λ b. cond b debts (debt ∷ paid_by message t debts)) (is_false (is_payable message t debt) unpaid)
-
--- where P does not hold of a debt, it and a list without the first debt of which P holds are the debt and the list without that one
-pub without-behind : (P : Debt → Type 0) (debt : Debt) (debts left : List Debt) → ¬ (P debt) → IsWithoutFirst P debts left → IsWithoutFirst P (debt ∷ debts) (debt ∷ left)
-without-behind P debt debts left fails a = record {
-  -- the debt stands before the first, and else all is as in the list
-  before = debt ∷ a.before;
-  first = a.first;
-  after = a.after;
-  whole = ap (λ ds. debt ∷ ds) a.whole;
-  holds = a.holds;
-  none_before = All-cons (λ x. ¬ (P x)) debt a.before fails a.none_before;
-  rest = ap (λ ds. debt ∷ ds) a.rest;
-}
+use Rattle.sip_machine.proofs.Words.{take_min, take-replicate, length-replicate, ◌≤◌, ◌≡◌, ◌<◌, ◌-◌, ◌||◌, ℕ, Bool, true, false, IsTrue, List, [], ◌∷◌, ◌++◌, All, filter, length, min, set, take, list_any, refl, sym, ◌∙◌, ap, ap₂, arith, cond, true≢false, list_any_at, All-nil, All-cons, filter-append, get_or-set_same, set-get_or, Debt, counts_at, is_payable, paid_by, IsWithoutFirst, owed_in, blank_rows}
 
 -- What follows is of a send of one message at the moment t, which can pay one of the debts, or none.
 module _ (message t : ℕ) where
@@ -47,24 +14,26 @@ module _ (message t : ℕ) where
   some-step debt debts true is any more =
       record { before = []; first = debt; after = debts; whole = refl; holds = is; none_before = All-nil (λ x. ¬ (Pays x)); rest = ap (λ b. cond b debts (debt ∷ paid_by message t debts)) is }
   some-step debt debts false is any more =
-      let fails : ¬ (Pays debt) = λ pays. true≢false (sym pays ∙ is) in
-      subst (IsWithoutFirst Pays (debt ∷ debts)) (sym (unpaid-front message t debt debts fails)) (without-behind Pays debt debts (paid_by message t debts) fails (more any))
+      let a = more any in
+      record {
+        -- the debt stands before the first that is paid, and else all is as in the list after it
+        before = debt ∷ a.before;
+        first = a.first;
+        after = a.after;
+        whole = ap (λ ds. debt ∷ ds) a.whole;
+        holds = a.holds;
+        none_before = All-cons (λ x. ¬ (Pays x)) debt a.before (λ pays. true≢false (sym pays ∙ is)) a.none_before;
+        rest = ap (λ b. cond b debts (debt ∷ paid_by message t debts)) is ∙ ap (λ ds. debt ∷ ds) a.rest;
+      }
 
   -- where a send can pay one of the debts, it takes the first that it can pay out of them
   pub pays-some : (debts : List Debt) → list_any (is_payable message t) debts ≡ true → IsWithoutFirst Pays debts (paid_by message t debts)
   pays-some [] any = absurd (true≢false (sym any))
   pays-some (debt ∷ debts) any = some-step debt debts (is_payable message t debt) refl any (pays-some debts)
 
-  -- where a send can pay neither a debt nor one of those after it, it can pay none of all; b says whether it can pay the debt itself
-  none-step : (debt : Debt) (debts : List Debt) (b : Bool) → is_payable message t debt ≡ b → (b || list_any (is_payable message t) debts) ≡ false →
-      (list_any (is_payable message t) debts ≡ false → All (λ x. ¬ (Pays x)) debts) → All (λ x. ¬ (Pays x)) (debt ∷ debts)
-  none-step debt debts true is any more = absurd (true≢false any)
-  none-step debt debts false is any more = All-cons (λ x. ¬ (Pays x)) debt debts (λ pays. true≢false (sym pays ∙ is)) (more any)
-
   -- where the test finds no payable debt, none of the debts is payable
   pub pays-none : (debts : List Debt) → list_any (is_payable message t) debts ≡ false → All (λ x. ¬ (Pays x)) debts
-  pays-none [] any = All-nil (λ x. ¬ (Pays x))
-  pays-none (debt ∷ debts) any = none-step debt debts (is_payable message t debt) refl any (pays-none debts)
+  pays-none debts none = λ k d low pays. true≢false (sym (list_any_at (is_payable message t) debts k d low pays) ∙ none)
 
 -- What follows is of what each of many states owes, by rows.
 
@@ -85,11 +54,10 @@ set_none count row debts is = sym (set-get_or (blank_rows count) row []) ∙ ap 
 
 -- without accounts, the first n rows owe nothing
 pub take_none : (count n : ℕ) → blank_rows (min count n) ≡ take n (blank_rows count)
-take_none zero zero = let e : min 0 0 ≡ 0 = omega arith in ap blank_rows e
-take_none zero (suc n) = let e : min 0 (suc n) ≡ 0 = omega arith in ap blank_rows e
-take_none (suc count) zero = let e : min (suc count) 0 ≡ 0 = omega arith in ap blank_rows e
-take_none (suc count) (suc n) =
-    let e : min (suc count) (suc n) ≡ suc (min count n) = omega arith in ap blank_rows e ∙ ap (λ rows. [] ∷ rows) (take_none count n)
+take_none count n =
+    let same : min count n ≡ min n (length (blank_rows count)) = omega (arith, length-replicate {A = List Debt} count []) in
+    let fits : min count n ≤ count = omega arith in
+    sym (take-replicate (min count n) count [] fits) ∙ ap (λ m. take m (blank_rows count)) same ∙ take_min n (blank_rows count)
 
 -- a row that is changed and then changed again is as if it was changed once, to what the second change makes of the first
 pub set_again : (rows : List (List Debt)) (row : ℕ) (debts : List Debt) (f : List Debt → List Debt) → row < length rows →

@@ -1,6 +1,6 @@
 -- What many states owe, changed at once.
 use Prim.Native.Nat.{suc, zero}
-use Rattle.sip_machine.proofs.Words.{◌≡◌, ◌≤◌, ◌+◌, ◌-◌, ℕ, Bool, true, false, List, [], ◌∷◌, ◌++◌, drop, filter, length, map, take, refl, sym, ◌∙◌, ap, ap₂, arith, cond, append-nil, nat_tests, drop-replicate, length-replicate, replicate-append-replicate, take-append-drop, take-replicate, All, All-drop, All-nil, All-replicate, None, map_fixed, subst, Debt, IsFirstPaid, paid_rows, is_timely, from_to, blank_rows, owed_in}
+use Rattle.sip_machine.proofs.Words.{◌≡◌, ◌≤◌, ◌+◌, ◌-◌, ℕ, Bool, true, false, List, [], ◌∷◌, ◌++◌, drop, filter, length, map, take, refl, sym, ◌∙◌, ap, ap₂, arith, cond, list_any, is_payable, ◌&&◌, append-nil, nat_tests, drop-replicate, length-replicate, replicate-append-replicate, take-append-drop, take-replicate, All, All-drop, All-nil, All-replicate, None, map_fixed, subst, Debt, IsFirstPaid, paid_rows, is_timely, from_to, blank_rows, owed_in}
 use Rattle.sip_machine.proofs.debts.DueLemmas.{owed-none, set_none, take_none}
 use Rattle.sip_machine.proofs.debts.NamesLemmas.{owed-appends}
 
@@ -17,31 +17,28 @@ mapped-twice f g h is (suc from) (owes ∷ rows) = ap (λ more. owes ∷ more) (
 -- where a change leaves an empty list of debts empty, rows that owe nothing stay as they are
 pub mapped-none : (f : List Debt → List Debt) (count from : ℕ) → f [] ≡ [] → blank_rows count ≡ take from (blank_rows count) ++ map f (drop from (blank_rows count))
 mapped-none f count from is =
-    let rest = map_fixed f (drop from (blank_rows count)) (All-drop (λ owes. f owes ≡ owes) from (blank_rows count) (All-replicate (λ owes. f owes ≡ owes) count [] is)) in
-    sym (ap (λ rows. take from (blank_rows count) ++ rows) rest ∙ take-append-drop from (blank_rows count))
+    let all = All-drop (λ owes. f owes ≡ owes) from (blank_rows count) (All-replicate (λ owes. f owes ≡ owes) count [] is) in
+    grind (arith, map_fixed f (drop from (blank_rows count)) all, take-append-drop)
 
 -- of rows that owe nothing, those from one index up to another owe nothing
 some-none : (count from to : ℕ) → to ≤ count → from_to from to (blank_rows count) ≡ blank_rows (to - from)
 some-none count from to le = ap (drop from) (take-replicate to count [] le) ∙ drop-replicate from to []
 
--- where a row that owes nothing passes the test, all rows that owe nothing pass it
-passing-all : (p : List Debt → Bool) (n : ℕ) → p [] ≡ true → filter p (blank_rows n) ≡ blank_rows n
-passing-all p zero is = refl
-passing-all p (suc n) is = ap (λ b. cond b ([] ∷ filter p (blank_rows n)) (filter p (blank_rows n))) is ∙ ap (λ rows. [] ∷ rows) (passing-all p n is)
-
--- where a row that owes nothing fails the test, all rows that owe nothing fail it
-passing-no : (p : List Debt → Bool) (n : ℕ) → p [] ≡ false → filter p (blank_rows n) ≡ []
-passing-no p zero is = refl
-passing-no p (suc n) is = ap (λ b. cond b ([] ∷ filter p (blank_rows n)) (filter p (blank_rows n))) is ∙ passing-no p n is
+-- rows that owe nothing all pass the test, or none does; b says whether one passes it
+passing : (p : List Debt → Bool) (n : ℕ) (b : Bool) → p [] ≡ b → filter p (blank_rows n) ≡ blank_rows (cond b n 0)
+passing p zero true is = refl
+passing p zero false is = refl
+passing p (suc n) true is = ap (λ b. cond b ([] ∷ filter p (blank_rows n)) (filter p (blank_rows n))) is ∙ ap (λ rows. [] ∷ rows) (passing p n true is)
+passing p (suc n) false is = ap (λ b. cond b ([] ∷ filter p (blank_rows n)) (filter p (blank_rows n))) is ∙ passing p n false is
 
 -- of rows that owe nothing, the timely ones from one index up to another, put after the others, are as many such rows more: all are timely
 pub timely-none : (t count from to : ℕ) → to ≤ count →
     blank_rows (count + (to - from)) ≡ blank_rows count ++ filter (is_timely t) (from_to from to (blank_rows count))
-timely-none t count from to le = grind (arith, replicate-append-replicate, passing-all, some-none)
+timely-none t count from to le = grind (arith, replicate-append-replicate, passing (is_timely t) (to - from) true refl, some-none)
 
 -- of rows that owe nothing, none pays
 pub paid-none : (message t count from to : ℕ) → to ≤ count → blank_rows count ≡ blank_rows count ++ paid_rows message t (from_to from to (blank_rows count))
-paid-none message t count from to le = grind (arith, nat_tests, some-none, passing-no, append-nil)
+paid-none message t count from to le = grind (arith, nat_tests, some-none, passing (λ owes. list_any (is_payable message t) owes && is_timely t owes) (to - from) false refl, append-nil)
 
 -- of rows that owe nothing, those at some indices owe nothing
 pub kept-none : (count : ℕ) (kept : List ℕ) → blank_rows (length kept) ≡ map (owed_in (blank_rows count)) kept

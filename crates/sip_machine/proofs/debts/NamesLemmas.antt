@@ -56,11 +56,11 @@ pub owed-appends : (rows : List (List Debt)) (old new : List ℕ) → AppendsOwe
 owed-appends rows old new a = (a.names, a.whole, λ m. (λ there. some-named m rows ((a.each m).0 there), λ there. (a.each m).1 (named-some m rows there)))
 
 -- What follows is of the messages that one row owes, each once.
-module _ (P : ℕ → Type 0) (debts : List Debt) (names : List ℕ) (owed : AppendsOwed (debts ∷ []) [] names) where
+module _ (P : ℕ → Type 0) (debts : List Debt) (old names : List ℕ) (none : old ≡ []) (owed : AppendsOwed (debts ∷ []) old names) where
   -- the names are those of the debts
   same : (n : ℕ) → Contains names n ↔ Contains (owes_names debts) n
   same =
-      let all = owed-appends (debts ∷ []) [] names owed in
+      let all = owed-appends (debts ∷ []) [] names (subst (λ ns. AppendsOwed (debts ∷ []) ns names) none owed) in
       subst (λ ns. (n : ℕ) → Contains ns n ↔ Contains (owes_names debts) n) (sym all.1) (subst (λ ds. (n : ℕ) → Contains all.0 n ↔ Contains ds n) (append-nil (owes_names debts)) all.2)
 
   -- what holds of each debt's message holds of each name

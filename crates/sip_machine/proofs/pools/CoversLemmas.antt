@@ -1,15 +1,6 @@
 -- Lists of states that cover what holds of some states, where one may be covered more than once.
-use Prim.Native.Nat.{suc, zero}
-use Rattle.std.specs.Prelude.{◌≡◌, ◌≤◌, ◌<◌, ◌+◌, ◌-◌, ◌↔◌, ◌⊎◌, ℕ, Bool, true, false, Option, Some, None, List, [], ◌∷◌, ◌++◌, All, drop, filter, get_or, length, map, option_to_list, take}
-use Rattle.std.proofs.Common.{inl, inr, refl, sym, ◌∙◌, ap, subst, cond, arith, append-nil, append_assoc, length-append}
-use Rattle.std.proofs.lemmas.Bool.Decides.{nat_tests}
-use Rattle.std.proofs.Math.Seq.{take-append_seam}
-use Rattle.std.proofs.lemmas.List.{get_or-drop, get_or-take, get_or_append_left, length-drop, length-take-le, map-append, take-append-le}
-use Rattle.std.proofs.lemmas.List.Elements.{All-append, All-drop, All-get_or, All-head, All-nil, All-tail, All-take, Contains-append_cases, Contains-append_left, Contains-append_right}
-use Rattle.sip_ledger.specs.Lists.{from_to}
-use Rattle.sip_machine.specs.Texts.{Texts}
-use Rattle.sip_machine.specs.Rules.{Covers, FromSome, Knows, StandFor}
-use Rattle.sip_machine.specs.inner.Single.{AnswersOne}
+use Rattle.sip_machine.proofs.Words.{take-take, take-append-drop, ◌≡◌, ◌≤◌, ◌<◌, ◌+◌, ◌-◌, ◌↔◌, ◌⊎◌, ℕ, Bool, true, false, Option, Some, None, List, [], ◌∷◌, ◌++◌, All, drop, filter, get_or, length, map, option_to_list, take, inl, inr, refl, sym, ◌∙◌, ap, subst, cond, arith, append-nil, append_assoc, nat_tests, get_or-drop, get_or-take, get_or_append_left, length-drop, length-take-le, map-append, take-append-le, All-append, All-drop, All-get_or, All-head, All-nil, All-tail, All-take, Contains-append_cases, Contains-append_left, Contains-append_right, from_to, Texts, Covers, FromSome, Knows, StandFor, AnswersOne}
+use Rattle.sip_machine.proofs.pools.PoolLemmas.{front-again, take-old}
 use Rattle.sip_machine.proofs.texts.TextLaws.{Contains-nil}
 use Rattle.sip_machine.proofs.steps.SingleLemmas.{StandFor-one}
 
@@ -19,47 +10,17 @@ module _ {X S : Type 0} where
   -- what leads from one of two lists leads from both together
   pub FromSome-append : (P : S → X → Type 0) (xs ys : List S) (y : X) → (FromSome P xs y ⊎ FromSome P ys y) ↔ FromSome P (xs ++ ys) y
   FromSome-append P [] ys y = (λ h. elim h [ inl none ↦ absurd none | inr later ↦ later ], inr)
-  FromSome-append P (x ∷ xs) ys y =
-      -- y comes from the first state, from another one of xs, or from one of ys
-      let more = FromSome-append P xs ys y in (
-        λ h. elim h [
-          | inl first ↦ elim first [ inl here ↦ inl here | inr rest ↦ inr (more.0 (inl rest)) ]
-          | inr later ↦ inr (more.0 (inr later))
-        ],
-        -- the converse: what leads from the first element or from one of the others
-        λ h. elim h [
-          | inl here ↦ inl (inl here)
-          | inr rest ↦ elim (more.1 rest) [ inl first ↦ inl (inr first) | inr later ↦ inr later ]
-        ],
-      )
+  FromSome-append P (x ∷ xs) ys y = grind (arith, nat_tests, FromSome-append P xs ys y)
 
   -- what leads in one way from one of the states, or in another way from one, leads from one of them in one of the two ways
   pub FromSome-either : (P Q : S → X → Type 0) (xs : List S) (y : X) → (FromSome P xs y ⊎ FromSome Q xs y) ↔ FromSome (λ x y. P x y ⊎ Q x y) xs y
   FromSome-either P Q [] y = (λ h. elim h [ inl none ↦ none | inr none ↦ none ], λ none. inl none)
-  FromSome-either P Q (x ∷ xs) y =
-      -- y comes from the first state or from another one, in either way
-      let more = FromSome-either P Q xs y in (
-        λ h. elim h [
-          | inl p ↦ elim p [ inl here ↦ inl (inl here) | inr rest ↦ inr (more.0 (inl rest)) ]
-          | inr q ↦ elim q [ inl here ↦ inl (inr here) | inr rest ↦ inr (more.0 (inr rest)) ]
-        ],
-        -- the converse: what leads in one of the two ways from one of the elements
-        λ h. elim h [
-          | inl here ↦ elim here [ inl p ↦ inl (inl p) | inr q ↦ inr (inl q) ]
-          | inr rest ↦ elim (more.1 rest) [ inl p ↦ inl (inr p) | inr q ↦ inr (inr q) ]
-        ],
-      )
+  FromSome-either P Q (x ∷ xs) y = grind (arith, nat_tests, FromSome-either P Q xs y)
 
   -- where two relations are the same, the states to which they lead from some states are the same
   pub FromSome-same : (P Q : S → X → Type 0) → ((x : S) (y : X) → P x y ↔ Q x y) → (xs : List S) (y : X) → FromSome P xs y ↔ FromSome Q xs y
   FromSome-same P Q same [] y = (λ none. none, λ none. none)
-  FromSome-same P Q same (x ∷ xs) y =
-      let here = same x y in
-      -- y comes from the first state, or from another one
-      let more = FromSome-same P Q same xs y in (
-        λ h. elim h [ inl p ↦ inl (here.0 p) | inr rest ↦ inr (more.0 rest) ],
-        λ h. elim h [ inl q ↦ inl (here.1 q) | inr rest ↦ inr (more.1 rest) ],
-      )
+  FromSome-same P Q same (x ∷ xs) y = grind (arith, nat_tests, same x y, FromSome-same P Q same xs y)
 
   -- where nothing leads from each of some states to y, nothing leads from one of them to y
   pub FromSome-none : (P : S → X → Type 0) (xs : List S) (y : X) → All (λ x. ¬ (P x y)) xs → FromSome P xs y → ⊥
@@ -160,16 +121,9 @@ module _ {X S : Type 0} (names : S → List ℕ) (InRange : S → Type 0) (seen 
 
 -- What follows is of parts of a list of states, from one index up to another.
 module _ {S : Type 0} where
-  -- the first n of the first m elements are the first n, where n is not above m
-  take-shorter : (n m : ℕ) (xs : List S) → n ≤ m → take n (take m xs) ≡ take n xs
-  take-shorter zero m xs le = refl
-  take-shorter (suc n) zero xs le = absurd (omega (arith, le))
-  take-shorter (suc n) (suc m) [] le = refl
-  take-shorter (suc n) (suc m) (x ∷ xs) le = ap (λ ys. x ∷ ys) (take-shorter n m xs (omega (arith, le)))
-
   -- what holds of the first `count` states holds of those from one index up to another, if the latter is not above `count`
   pub slice-all : (P : S → Type 0) (from to count : ℕ) (xs : List S) → to ≤ count → All P (take count xs) → All P (from_to from to xs)
-  slice-all P from to count xs le all = All-drop P from (take to xs) (subst (All P) (take-shorter to count xs le) (All-take P to (take count xs) all))
+  slice-all P from to count xs le all = All-drop P from (take to xs) (subst (All P) (take-take to count xs le) (All-take P to (take count xs) all))
 
   -- where others are put after the states, those from one index up to another are the same
   pub slice-old : (from to : ℕ) (old found new : List S) → new ≡ old ++ found → to ≤ length old → from_to from to new ≡ from_to from to old
@@ -186,16 +140,11 @@ module _ {S : Type 0} where
 
   -- the states up to `to` are those up to `at` and those from there up to `to`
   pub take-slice : (at to : ℕ) (xs : List S) → at ≤ to → take to xs ≡ take at xs ++ from_to at to xs
-  take-slice zero to xs le = refl
-  take-slice (suc at) zero xs le = absurd (omega (arith, le))
-  take-slice (suc at) (suc to) [] le = refl
-  take-slice (suc at) (suc to) (x ∷ xs) le = ap (λ ys. x ∷ ys) (take-slice at to xs (omega (arith, le)))
+  take-slice at to xs le = sym (take-append-drop at (take to xs)) ∙ ap (λ ys. ys ++ from_to at to xs) (take-take at to xs le)
 
   -- where states were put after the old ones, and later ones left all these as they were, the old ones are as they were
   pub before-more : (old mid new added : List S) → mid ≡ old ++ added → take (length mid) new ≡ mid → take (length old) new ≡ old
-  before-more old mid new added is stands =
-      let size : length mid ≡ length old + length added = ap length is ∙ length-append old added in
-      sym (take-shorter (length old) (length mid) new (omega (arith, size))) ∙ ap (take (length old)) (stands ∙ is) ∙ take-append_seam old added
+  before-more old mid new added is stands = front-again old mid new (take-old old added mid (length old) is refl) stands
 
   -- what holds of the old states from one index up to another holds of the state at an index between, when others are put after the old ones
   pub slice-at : (P : S → Type 0) (from to k : ℕ) (old found new : List S) (d : S) → new ≡ old ++ found → from ≤ k → k < to → to ≤ length old →

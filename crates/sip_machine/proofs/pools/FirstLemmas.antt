@@ -1,8 +1,8 @@
 -- The first of each kind among the elements of a list: how these are brought to its front, and the prints by which they are found.
 use Prim.Native.Nat.{suc, zero}
-use Rattle.std.specs.Prelude.{◌≡◌, ◌≢◌, ◌<◌, ◌≤◌, ◌+◌, ◌-◌, ℕ, List, [], ◌∷◌, ◌++◌, All, AllPairs, bit_xor, drop, get_or, length, map, take}
+use Rattle.std.specs.Prelude.{◌≡◌, ◌≢◌, ◌<◌, ◌≤◌, ◌+◌, ◌-◌, ◌↔◌, ℕ, Bool, false, IsTrue, List, [], ◌∷◌, ◌++◌, All, AllPairs, bit_xor, drop, get_or, length, map, take}
 use Rattle.std.specs.List.{Any}
-use Rattle.std.proofs.Common.{inl, inr, sym, ◌∙◌, ap, ap₂, subst, arith, length-set}
+use Rattle.std.proofs.Common.{inl, inr, sym, ◌∙◌, ap, ap₂, subst, arith, length-set, true≢false}
 use Rattle.std.proofs.lemmas.Grind.{common_steps}
 use Rattle.std.proofs.lemmas.Bool.Decides.{nat_tests}
 use Rattle.std.proofs.lemmas.Bool.{cases_lt}
@@ -27,7 +27,7 @@ module _ {X : Type 0} (xs : List X) where
   IsNew rows k = (x : X) → All (λ row. get_or xs row x ≢ get_or xs k x) rows
 
   -- the row that stands at i in the list of rows is one of them
-  pub Any-here : (rows : List ℕ) (i d k : ℕ) (x : X) → i < length rows → get_or xs (get_or rows i d) x ≡ get_or xs k x → Any (λ row. get_or xs row x ≡ get_or xs k x) rows
+  Any-here : (rows : List ℕ) (i d k : ℕ) (x : X) → i < length rows → get_or xs (get_or rows i d) x ≡ get_or xs k x → Any (λ row. get_or xs row x ≡ get_or xs k x) rows
   Any-here rows i d k x low same = (i, get_or rows i d, low, get_or_default rows i (get_or rows i d) d low, same)
 
   -- what holds of one of some rows holds of one of them and a further one
@@ -41,7 +41,7 @@ module _ {X : Type 0} (xs : List X) where
       low-more (r ∷ rows) row (suc i) low = let more = low-more rows row i (omega (arith, low)) in omega (arith, more)
 
   -- where none of the first ones is the same as the element at `at`, that is a further first one
-  pub first-more : (from at : ℕ) (rows : List ℕ) → from ≤ at → AreFirstOnes xs from at rows → IsNew rows at → AreFirstOnes xs from (at + 1) (rows ++ at ∷ [])
+  first-more : (from at : ℕ) (rows : List ℕ) → from ≤ at → AreFirstOnes xs from at rows → IsNew rows at → AreFirstOnes xs from (at + 1) (rows ++ at ∷ [])
   first-more from at rows low first new = record {
     within = All-push (λ row. (from ≤ row) × (row < at + 1)) rows at
         (All-weaker (λ row. (from ≤ row) × (row < at)) (λ row. (from ≤ row) × (row < at + 1)) (λ row is. let b = is.1 in (is.0, omega (arith, b))) rows first.within)
@@ -58,6 +58,12 @@ module _ {X : Type 0} (xs : List X) where
     -- no two rows have equal elements: that of the new row is none of the others
     apart = λ x. all_pairs_push (λ a b. get_or xs a x ≢ get_or xs b x) rows at (first.apart x) (λ k d low. new x k d low);
   }
+
+  -- where a test tells whether the element at `at` has its equal among the rows, and it has none there, the rows and this one are those up to one further
+  pub first-told : (from at : ℕ) (rows : List ℕ) (is : Bool) → from ≤ at → AreFirstOnes xs from at rows → ((x : X) → IsTrue is ↔ Any (λ row. get_or xs row x ≡ get_or xs at x) rows) →
+      is ≡ false → AreFirstOnes xs from (at + 1) (rows ++ at ∷ [])
+  first-told from at rows is low first tells none =
+      first-more from at rows low first (λ x i d within same. true≢false (sym ((tells x).1 (Any-here rows i d at x within same)) ∙ none))
 
   -- where one of the first ones is the same as the element at `at`, that is no further first one
   pub first-again : (from at : ℕ) (rows : List ℕ) → AreFirstOnes xs from at rows → IsAmong rows at → AreFirstOnes xs from (at + 1) rows

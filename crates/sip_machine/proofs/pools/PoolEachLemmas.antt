@@ -1,5 +1,5 @@
 -- The states of a pool, many of which take the same step.
-use Rattle.sip_machine.proofs.Words.{nat_tests, ◌≡◌, ◌<◌, ◌≤◌, ◌+◌, ◌-◌, ℕ, Bool, List, [], ◌∷◌, ◌++◌, All, drop, filter, get_or, length, map, replicate, take, refl, sym, ◌∙◌, ap, ap₂, subst, arith, length-append, drop-append_seam, take-append_seam, drop-append-le, drop-map, length-drop, length-map, length-take-le, take-map, take_more, All-filter, All-head, All-push, All-tail, Debt, from_to, CodeOwing, filter-map, owed_in, picked, beside}
+use Rattle.sip_machine.proofs.Words.{nat_tests, ◌≡◌, ◌<◌, ◌≤◌, ◌+◌, ◌-◌, ℕ, Bool, List, [], ◌∷◌, ◌++◌, All, drop, filter, get_or, length, map, replicate, take, refl, sym, ◌∙◌, ap, ap₂, arith, length-append, drop-append_seam, take-append_seam, drop-append-le, drop-map, length-drop, length-map, length-take-le, All-get_or, take-map, take_more, All-filter, All-head, All-push, All-tail, Debt, from_to, CodeOwing, filter-map, owed_in, picked, beside}
 use Rattle.sip_machine.proofs.pools.PoolLemmas.{beside-append, beside-at}
 use Rattle.sip_machine.proofs.pools.CoversLemmas.{slice-get}
 
@@ -17,9 +17,7 @@ module _ {X : Type 0} where
 
   -- what holds of all elements from one index up to another holds of the element at an index between
   pub some-at : (P : X → Type 0) (from to k : ℕ) (xs : List X) (d : X) → to ≤ length xs → from ≤ k → k < to → All P (from_to from to xs) → P (get_or xs k d)
-  some-at P from to k xs d within low high all =
-      let size = length-drop from (take to xs) ∙ ap (λ n. n - from) (length-take-le to xs within) in
-      subst P (slice-get from to k xs d low high) (all (k - from) d (omega (arith, size, low, high)))
+  some-at P from to k xs d within low high all = grind (arith, nat_tests, slice-get, length-drop, length-take-le, All-get_or)
 
 -- what f gives of the elements from one index up to another is what it gives of all, from the one up to the other
 from_to-map : {X Y : Type 0} (f : X → Y) (from to : ℕ) (xs : List X) → from_to from to (map f xs) ≡ map f (from_to from to xs)

@@ -1,6 +1,6 @@
 -- The states of a pool: a list of phases and a list of what is owed, read as one list.
 use Prim.Native.Nat.{suc, zero}
-use Rattle.sip_machine.proofs.Words.{◌≡◌, ◌==◌, ◌↔◌, ◌<◌, ◌≤◌, ℕ, IsTrue, List, [], ◌∷◌, ◌++◌, drop, get_or, length, set, take, HoldsAt, refl, sym, ◌∙◌, ap, ap₂, subst, arith, nat_tests, get_or-append_seam, take-append_seam, length-drop, set-get_or, length-take, length_push, take-take, take_all, dropped-first, Debt, CodeOwing, at_rest, state_in, Rest, Stays, Pays, owed_in, rested_debts, rests_at, beside}
+use Rattle.sip_machine.proofs.Words.{◌≡◌, ◌==◌, ◌↔◌, ◌<◌, ◌≤◌, ℕ, IsTrue, List, [], ◌∷◌, ◌++◌, drop, get_or, length, set, take, HoldsAt, refl, sym, ◌∙◌, ap, ap₂, subst, arith, nat_tests, get_or-append_seam, take-append_seam, length-drop, set-get_or, set_at, set_split, drop_all, length-take, length_push, take-take, take_all, dropped-first, Debt, CodeOwing, at_rest, state_in, Rest, Stays, Pays, owed_in, rested_debts, rests_at, beside}
 
 -- What follows is of phases beside the rows of what is owed, as the states of a pool.
 module _ {S : Type 0} where
@@ -25,11 +25,6 @@ module _ {S : Type 0} where
   beside-append [] more (row ∷ rows) again long = absurd (omega (arith, long))
   beside-append (phase ∷ phases) more [] again long = absurd (omega (arith, long))
   beside-append (phase ∷ phases) more (row ∷ rows) again long = grind (arith, nat_tests, beside-append phases more rows again)
-
-  -- where a phase and a row are put after the others, the state of these comes after the others
-  pub beside_push : (phases : List S) (rows : List (List Debt)) (phase : S) (row : List Debt) → length rows ≡ length phases →
-      beside (phases ++ phase ∷ []) (rows ++ row ∷ []) ≡ beside phases rows ++ record { phase = phase; owes = row } ∷ []
-  beside_push phases rows phase row long = beside-append phases (phase ∷ []) rows (row ∷ []) long
 
   -- the first n phases beside the first n rows are the first n states
   pub beside-take : (phases : List S) (rows : List (List Debt)) (n : ℕ) → length rows ≡ length phases → beside (take n phases) (take n rows) ≡ take n (beside phases rows)
@@ -67,9 +62,7 @@ module _ {S : Type 0} where
       set (beside phases rows) k (rests_at t rest (get_or (beside phases rows) k x)) ≡ beside phases (set rows k (rested_debts t rest (owed_in rows k)))
   rested-set phases rows k t rest x long low =
       let p = get_or phases k x.phase in
-      let row = rested_debts t rest (owed_in rows k) in
-      ap (set (beside phases rows) k) (ap (rests_at t rest) (beside-at phases rows k x.phase x low) ∙ rests-owes t rest (state_in p rows k))
-      ∙ sym (beside-set phases rows k p row long) ∙ ap (λ ps. beside ps (set rows k row)) (set-get_or phases k x.phase)
+      grind (arith, beside-at phases rows k x.phase x low, rests-owes t rest (state_in p rows k), beside-set phases rows k p (rested_debts t rest (owed_in rows k)) long, set-get_or phases k x.phase)
 
   -- an index of a state is one of a phase, and of a row
   pub in-phases : (phases : List S) (rows : List (List Debt)) (xs : List (CodeOwing S)) (k : ℕ) → beside phases rows ≡ xs → k < length xs → k < length phases
@@ -83,6 +76,11 @@ module _ {S : Type 0} where
   pub state-at : (phases : List S) (rows : List (List Debt)) (xs : List (CodeOwing S)) (k : ℕ) (p : S) (x : CodeOwing S) → beside phases rows ≡ xs → k < length xs →
       get_or xs k x ≡ state_in (get_or phases k p) rows k
   state-at phases rows xs k p x is low = ap (λ ys. get_or ys k x) (sym is) ∙ beside-at phases rows k p x (in-phases phases rows xs k is low)
+
+  -- the phase of the state at k is the phase at k
+  pub phase-at : (phases : List S) (rows : List (List Debt)) (xs : List (CodeOwing S)) (k : ℕ) (p : S) (x : CodeOwing S) → beside phases rows ≡ xs → k < length xs →
+      p ≡ get_or phases k p → (get_or xs k x).phase ≡ p
+  phase-at phases rows xs k p x is low is_p = ap (λ z. z.phase) (state-at phases rows xs k p x is low) ∙ sym is_p
 
   -- the phase at k with what row k has is the state at k
   pub state-here : (phases : List S) (rows : List (List Debt)) (xs : List (CodeOwing S)) (k : ℕ) (p : S) (x : CodeOwing S) → beside phases rows ≡ xs → k < length xs →
@@ -121,25 +119,25 @@ module _ {X : Type 0} where
 
   -- a list of one element that is set to x is the list of x
   pub alone-set : (xs : List X) (x : X) → length xs ≡ 1 → set xs 0 x ≡ x ∷ []
-  alone-set [] x one = absurd (omega (arith, one))
-  alone-set (y ∷ []) x one = refl
-  alone-set (y ∷ z ∷ xs) x one = absurd (omega (arith, one))
-
-  -- the element that was put last is replaced at its place
-  set-end : (old : List X) (x y : X) → set (old ++ x ∷ []) (length old) y ≡ old ++ y ∷ []
-  set-end [] x y = refl
-  set-end (z ∷ old) x y = ap (λ xs. z ∷ xs) (set-end old x y)
+  alone-set xs x one = set_split xs 0 x (omega (arith, one)) ∙ ap (λ ys. x ∷ ys) (drop_all 1 xs (omega (arith, one)))
 
   -- where x was put after the old elements, and the last one is then changed by f, the list is the old elements and f x
-  pub set-last : (old more new : List X) (x d : X) (last : ℕ) (f : X → X) → more ≡ old ++ x ∷ [] → last ≡ length old → new ≡ set more last (f (get_or more last d)) → new ≡ old ++ f x ∷ []
-  set-last old more new x d last f is at changed = grind (arith, get_or-append_seam, set-end)
+  set-last : (old more new : List X) (x d : X) (last : ℕ) (f : X → X) → more ≡ old ++ x ∷ [] → last ≡ length old → new ≡ set more last (f (get_or more last d)) → new ≡ old ++ f x ∷ []
+  set-last old more new x d last f is at changed = grind (arith, get_or-append_seam, set_at)
 
   -- where elements were put after the old ones, the first as many as there were are the old ones
   pub take-old : (old added new : List X) (n : ℕ) → new ≡ old ++ added → n ≡ length old → take n new ≡ old
   take-old old added new n is at = ap₂ take at is ∙ take-append_seam old added
 
+  -- where a copy of the element at k was put after the old ones, and is then changed by f, f of that element stands after the old ones
+  pub copy-changed : (old more new : List X) (k last : ℕ) (f : X → X) → k < length old → HoldsAt (λ x. more ≡ old ++ x ∷ []) old k → last ≡ length old →
+      HoldsAt (λ x. new ≡ set more last (f x)) more last → HoldsAt (λ x. new ≡ old ++ f x ∷ []) old k × (take (length old) new ≡ old)
+  copy-changed old more new k last f low copied at changed =
+      let is : HoldsAt (λ x. new ≡ old ++ f x ∷ []) old k = λ d. set-last old more new (get_or old k d) d last f (copied d) at (changed d) in
+      (is, take-old old _ new (length old) (is (some-at old k low)) refl)
+
 -- how phases and rows of a pool stand beside each other: the lemmas that `using(..)` gives the prover in `src/pool.rt`
-pub ruleset of_pool = (beside-length, beside_push, beside-set, beside-take, empty-length, in-phases, in-rows, rested-set, state-at, same-state, take-append_seam, take_all, length_push, not-shorter, front-again)
+pub ruleset of_pool = (beside-length, phase-at, beside-append, beside-set, beside-take, empty-length, in-phases, in-rows, rested-set, state-at, same-state, take-append_seam, take_all, length_push, not-shorter, front-again)
 
 -- what is left in a pool after the first states: the lemmas that `using(..)` gives the prover in `src/pool.rt`
 pub ruleset of_drop = (beside-length, beside-drop, dropped-first, length-drop)

@@ -1,24 +1,18 @@
 -- Prints by slots: how the newest print of each slot, and beside each print the one before it in its slot, lead to an equal print.
-use Rattle.std.proofs.Common.{◌≡◌, ◌≢◌, ◌<◌, ◌≤◌, ◌+◌, ◌-◌, ◌++◌, ◌∷◌, ◌∙◌, [], ℕ, List, get_or, length, arith, ap, subst, sym, set}
-use Rattle.std.proofs.lemmas.Bool.Decides.{nat_tests}
-use Rattle.std.proofs.lemmas.List.{get_or-map, length-map, map-append, length-set, length_push, get_or_append_left, get_or_push, get_or-set_same, get_or-set_other}
-use Rattle.std.proofs.lemmas.Bool.{cases_eq, cases_lt}
-use Rattle.sip_machine.specs.declared.slots.SlotPrint.{SlotPrint}
-use Rattle.sip_machine.specs.inner.Slots.{Slotted, AreSlots, IsNewest, IsReached, slot_of, slotted}
+use Rattle.sip_machine.proofs.Words.{◌≡◌, ◌≢◌, ◌<◌, ◌≤◌, ◌+◌, ◌-◌, ◌++◌, ◌∷◌, ◌∙◌, [], ℕ, List, get_or, length, arith, ap, subst, sym, set, nat_tests, get_or-map, length-map, map-append, length-set, length_push, get_or_append_left, get_or_push, get_or-set_same, get_or-set_other, cases_eq, cases_lt, SlotPrint, Slotted, AreSlots, IsNewest, IsReached, slot_of, slotted}
 
 -- the prints of the pairs that the code keeps are as many as the pairs
 pub pairs-count : (newest : List ℕ) (kept : List SlotPrint) (s : Slotted) → slotted newest kept ≡ s → length s.prints ≡ length kept
 pairs-count newest kept s is = ap (λ (s : Slotted). length s.prints) (sym is) ∙ length-map kept (λ x. x.print)
 
--- the print at a place is that of the pair there
-pub pair-print : (newest : List ℕ) (kept : List SlotPrint) (s : Slotted) (at : ℕ) (x : SlotPrint) → slotted newest kept ≡ s → at < length s.prints → x ≡ get_or kept at x → get_or s.prints at 0 ≡ x.print
-pair-print newest kept s at x is low here =
-    ap (λ (s : Slotted). get_or s.prints at 0) (sym is) ∙ get_or-map (λ x. x.print) kept at x 0 (subst (λ n. at < n) (pairs-count newest kept s is) low) ∙ ap (λ (x : SlotPrint). x.print) (sym here)
-
--- what a print leads to is what the pair at its place says
-pub pair-older : (newest : List ℕ) (kept : List SlotPrint) (s : Slotted) (at : ℕ) (x : SlotPrint) → slotted newest kept ≡ s → at < length s.prints → x ≡ get_or kept at x → get_or s.olders at 0 ≡ x.older
-pair-older newest kept s at x is low here =
-    ap (λ (s : Slotted). get_or s.olders at 0) (sym is) ∙ get_or-map (λ x. x.older) kept at x 0 (subst (λ n. at < n) (pairs-count newest kept s is) low) ∙ ap (λ (x : SlotPrint). x.older) (sym here)
+-- the print at a place, and what it leads to, are what the pair there says
+pub pair-at : (newest : List ℕ) (kept : List SlotPrint) (s : Slotted) (at : ℕ) (x : SlotPrint) → slotted newest kept ≡ s → at < length s.prints → x ≡ get_or kept at x →
+    (get_or s.prints at 0 ≡ x.print) × (get_or s.olders at 0 ≡ x.older)
+pair-at newest kept s at x is low here =
+    let low' = subst (λ n. at < n) (pairs-count newest kept s is) low in (
+      ap (λ (s : Slotted). get_or s.prints at 0) (sym is) ∙ get_or-map (λ x. x.print) kept at x 0 low' ∙ ap (λ (x : SlotPrint). x.print) (sym here),
+      ap (λ (s : Slotted). get_or s.olders at 0) (sym is) ∙ get_or-map (λ x. x.older) kept at x 0 low' ∙ ap (λ (x : SlotPrint). x.older) (sym here),
+    )
 
 -- What follows is of a print that is put under its slot.
 

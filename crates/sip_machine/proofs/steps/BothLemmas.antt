@@ -1,14 +1,5 @@
 -- At most two states of the code stand for all to which an event leads.
-use Rattle.std.specs.Prelude.{◌≡◌, ◌≢◌, ◌↔◌, ◌⊎◌, ℕ, Option, Some, None, List, [], ◌∷◌}
-use Rattle.std.proofs.Common.{inl, inr, refl, sym, arith}
-use Rattle.std.proofs.lemmas.Bool.Decides.{nat_tests}
-use Rattle.std.proofs.lemmas.List.Elements.{All-nil, All-cons, Contains-push, Contains-push_cases}
-use Rattle.std.proofs.lemmas.List.Kept.{AllPairs-cons}
-use Rattle.sip_machine.specs.Texts.{Texts}
-use Rattle.sip_machine.specs.Rules.{Knows, StandFor}
-use Rattle.sip_machine.specs.inner.Effects.{OrStays}
-use Rattle.sip_machine.specs.inner.Single.{AnswersOne}
-use Rattle.sip_machine.specs.inner.Both.{AnswersBoth}
+use Rattle.sip_machine.proofs.Words.{◌≡◌, ◌≢◌, ◌↔◌, ◌⊎◌, ℕ, Option, Some, None, List, [], ◌∷◌, inl, inr, refl, sym, arith, nat_tests, All-nil, All-cons, Contains-push, Contains-push_cases, AllPairs-cons, Texts, Knows, StandFor, OrStays, AnswersOne, AnswersBoth}
 use Rattle.sip_machine.proofs.texts.TextLaws.{Contains-nil}
 use Rattle.sip_machine.proofs.steps.SingleLemmas.{StandFor-none, StandFor-one}
 
@@ -34,20 +25,10 @@ module _ {X S : Type 0} (names : S → List ℕ) (InRange : S → Type 0) (seen 
       StandFor-none names InRange seen texts (λ x. P x ⊎ Q x) (λ x h. elim h [ inl p ↦ none x p | inr q ↦ none' x q ])
   -- only Q has a state
   AnswersBoth-two P Q apart None (Some t) none one =
-      StandFor-one names InRange seen texts (λ x. P x ⊎ Q x) t
-      (record {
-        only = λ x. (λ h. elim h [ inl p ↦ absurd (none x p) | inr q ↦ (one.only x).0 q ], λ e. inr ((one.only x).1 e));
-        known = one.known;
-        in_range = one.in_range;
-      })
+      StandFor-same Q (λ x. P x ⊎ Q x) (λ x. (λ q. inr q, λ h. elim h [ inl p ↦ absurd (none x p) | inr q ↦ q ])) (t ∷ []) (StandFor-one names InRange seen texts Q t one)
   -- only P has a state
   AnswersBoth-two P Q apart (Some s) None one none =
-      StandFor-one names InRange seen texts (λ x. P x ⊎ Q x) s
-      (record {
-        only = λ x. (λ h. elim h [ inl p ↦ (one.only x).0 p | inr q ↦ absurd (none x q) ], λ e. inl ((one.only x).1 e));
-        known = one.known;
-        in_range = one.in_range;
-      })
+      StandFor-same P (λ x. P x ⊎ Q x) (λ x. (λ p. inl p, λ h. elim h [ inl p ↦ p | inr q ↦ absurd (none x q) ])) (s ∷ []) (StandFor-one names InRange seen texts P s one)
   -- both P and Q have a state, and the two states are not the same
   AnswersBoth-two P Q apart (Some s) (Some t) one other =
       record {
@@ -80,8 +61,4 @@ module _ {X S : Type 0} (names : S → List ℕ) (InRange : S → Type 0) (seen 
 -- where P holds of z alone, a received message that leads where P says leads to z alone
 -- x is the state before the message, and y any state to which it leads
 pub OrStays-one : {X : Type 0} (P : X → Type 0) (x z : X) → ((y : X) → P y ↔ (y ≡ z)) → (y : X) → OrStays P x y ↔ (y ≡ z)
-OrStays-one P x z only y = (
-  -- where P holds of y, y is z; and the state does not stay, since P holds of z
-  λ h. elim h [ inl p ↦ (only y).0 p | inr stays ↦ absurd (stays.0 z ((only z).1 refl)) ],
-  λ e. inl ((only y).1 e),
-)
+OrStays-one P x z only y = grind (arith, nat_tests, only y, (only z).1 refl)

@@ -1,21 +1,6 @@
 -- What a row of a server adds to the debts, and which send pays them.
-use Rattle.std.specs.Prelude.{◌≡◌, ◌↔◌, ℕ, Bool, true, false, not, IsTrue, Option, List, [], ◌∷◌, All}
-use Rattle.std.proofs.Common.{refl, sym, inl, inr, true≢false}
-use Rattle.std.proofs.lemmas.List.Elements.{All-nil, All-cons, All-append}
-use Rattle.sip_ledger.specs.declared.debt.Debt.{Debt}
+use Rattle.sip_machine.proofs.Words.{◌≡◌, ◌↔◌, ℕ, Bool, true, false, not, IsTrue, Option, List, [], ◌∷◌, All, refl, sym, inl, inr, true≢false, All-nil, All-cons, All-append, Debt, Texts, IsBook, Keeps, text_of, Knows, Is100, owes_names, After, gains, Replies, turn_seen, turn_names, TurnInRange, IsTheOne, is_payable, PaysFor, FindsFirst, payables-seen}
 use Rattle.sip_machine.specs.declared.phases.Change.TheVariants as code
-use Rattle.sip_machine.specs.Texts.{Texts, IsBook, Keeps, text_of}
-use Rattle.sip_machine.specs.Rules.{Knows}
-use Rattle.sip_standard.specs.Provisional.{Is100}
-use Rattle.sip_machine.specs.Owes.{owes_names}
-use Rattle.sip_machine.specs.FigureRules.{After}
-use Rattle.sip_standard.specs.Figure.{gains}
-use Rattle.sip_standard.specs.Replies.{Replies}
-use Rattle.sip_machine.specs.inner.Turns.{turn_seen, turn_names, TurnInRange}
-use Rattle.sip_machine.specs.inner.Single.{IsTheOne}
-use Rattle.sip_ledger.specs.Debts.{is_payable}
-use Rattle.sip_machine.specs.inner.Paying.{PaysFor, FindsFirst}
-use Rattle.sip_phases.proofs.debts.OwesLaws.{payables-seen}
 use Rattle.sip_machine.proofs.acks.HolderLemmas.{FindsFirst-same}
 
 -- a turn with a new debt is the only one, where the book keeps its message beside what the phase names

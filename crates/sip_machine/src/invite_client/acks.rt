@@ -13,10 +13,11 @@ use crate::dues::Dues;
 use crate::event::Event;
 use crate::hashed::Hashed;
 use sip_key::{is_ack_for, solid_of};
-use sip_ledger::{Accounts, Index};
+use sip_ledger::{Accounts, Debt, Index};
 use std::alloc::{AllocError, Global};
 
-/// In how many steps a debt is looked for among the messages under a hash: in so many first, and in the next of these where they do not tell.
+/// In how many steps a debt is looked for among the messages under a hash: in so many first, and in the next of these where they do not tell. In between
+/// four times as many of the oldest debts are looked at, which take as long.
 const STEPS: [usize; 6] = [64, 512, 4096, 32_768, 262_144, usize::MAX];
 
 /// The message of the first debt of the row that is a response to the INVITE to which the event's ACK belongs (RFC 3261,
@@ -62,7 +63,7 @@ pub(crate) fn first_acked(
 
 /// The message of the first debt of the row whose message has this To, from which the blanks were taken, and whose deadline has
 /// not passed. The oldest debt is looked at first. Where it is another one, it is looked for among the messages that the book keeps
-/// under the hash of the To, and where that does not tell it, among all different messages that the row owes.
+/// under the hash of the To, and among the oldest debts, in turn. Where hashes do not stand, each different message that the row owes is looked at.
 fn first_with_to(
     alloc: Global,
     book: &Book,
@@ -82,14 +83,72 @@ fn first_with_to(
     if moment <= debt.deadline && book.has_to(alloc, message, to, &mut 0)? {
         return Ok(Some(message));
     }
-    if let Some(found) = first_under(alloc, book, to, moment, accounts, row)? {
-        return Ok(found);
+    let (low, high) = accounts.span();
+    if book.hashes(low, high).is_none() {
+        return first_named(alloc, book, to, moment, accounts, row);
+    }
+    for most in STEPS {
+        if let Some(found) = first_under(alloc, book, to, moment, accounts, row, most)? {
+            return Ok(found);
+        }
+        let debts = most.saturating_mul(4);
+        if let Some(found) = first_of_oldest(alloc, book, to, moment, accounts, row, debts)? {
+            return Ok(found);
+        }
     }
     first_named(alloc, book, to, moment, accounts, row)
 }
 
-/// What `first_with_to` finds, where the hash of the To tells it: where all messages that are owed stand under the hashes of their Tos, and
-/// the first of them that stands under this hash has this To.
+/// What `first_with_to` finds, where one of this many oldest debts has the To, or where the row owes fewer.
+fn first_of_oldest(
+    alloc: Global,
+    book: &Book,
+    to: &Hashed,
+    moment: u64,
+    accounts: &Accounts,
+    row: usize,
+    most: usize,
+) -> Result<Option<Option<u64>>, AllocError>
+    requires row { row < length accounts.now }
+    requires owed { All (Keeps book.now) (owes_names (owed_in accounts.now row)) }
+    ensures { IfOk result (λ found. IfSome found (FindsFirst (HasTo book.now to.now moment) moment (owed_in accounts.now row))) }
+{
+    let debts = accounts.first_debts(alloc, row, most)?;
+    let found = first_of(alloc, book, to, &debts, moment)?;
+    if found.is_some() {
+        return Ok(Some(found));
+    }
+    // All debts were looked at, and none that can still be paid has the To.
+    if debts.len() < most {
+        return Ok(Some(None));
+    }
+    Ok(None)
+}
+
+/// The message of the first of these debts whose message has this To and whose deadline has not passed, found by a look at each in
+/// their order, in which the messages mostly came.
+fn first_of(
+    alloc: Global,
+    book: &Book,
+    to: &Hashed,
+    debts: &[Debt],
+    moment: u64,
+) -> Result<Option<u64>, AllocError>
+    requires { All (λ debt. Keeps book.now debt.message) debts.now }
+    ensures { IfOk result (FindsFirst (HasTo book.now to.now moment) moment debts.now) }
+{
+    let mut near = 0;
+    for debt in debts {
+        let message = debt.message;
+        if moment <= debt.deadline && book.has_to(alloc, message, to, &mut near)? {
+            return Ok(Some(message));
+        }
+    }
+    Ok(None)
+}
+
+/// What `first_with_to` finds, where the hash of the To tells it in `most` steps: where all messages that are owed stand under the hashes of
+/// their Tos, and the first of them that stands under this hash has this To. Steps that do not tell it are counted.
 fn first_under(
     alloc: Global,
     book: &Book,
@@ -97,6 +156,7 @@ fn first_under(
     moment: u64,
     accounts: &Accounts,
     row: usize,
+    most: usize,
 ) -> Result<Option<Option<u64>>, AllocError>
     requires row { row < length accounts.now }
     requires owed { All (Keeps book.now) (owes_names (owed_in accounts.now row)) }
@@ -107,7 +167,8 @@ fn first_under(
     let Some(hashes) = book.hashes(low, high) else {
         return Ok(None);
     };
-    let Some(first) = first_told(book, hashes, to.hash(), moment, accounts, row) else {
+    let Some(first) = accounts.first_payable(row, hashes, to.hash(), moment, most) else {
+        book.count_steps(most);
         return Ok(None);
     };
     // No debt that can still be paid is of a message under the hash, and so none is of one with the To.
@@ -119,29 +180,6 @@ fn first_under(
         return Ok(None);
     }
     Ok(Some(Some(message)))
-}
-
-/// The message of the first debt that a send of one of the messages under the key pays, found in as few steps as tell it. Those that do not
-/// tell it are counted.
-fn first_told(
-    book: &Book,
-    index: &Index,
-    key: u64,
-    moment: u64,
-    accounts: &Accounts,
-    row: usize,
-) -> Option<Option<u64>>
-    requires { row < length accounts.now }
-    ensures { IfSome result (IsFirstPaid (PaysSome (holds index.now key) moment) moment (owed_in accounts.now row)) }
-{
-    for most in STEPS {
-        let first = accounts.first_payable(row, index, key, moment, most);
-        if first.is_some() {
-            return first;
-        }
-        book.count_steps(most);
-    }
-    None
 }
 
 /// What `first_with_to` finds, by a look at each message that the row owes, once.
@@ -159,6 +197,7 @@ fn first_named(
 {
     let mut messages = Vec::new(alloc);
     accounts.names_once(row, &mut messages)?;
+    book.count_messages(messages.len());
     let index = with_to(alloc, book, to, &messages)?;
     let Some(found) = accounts.first_payable(row, &index, 0, moment, usize::MAX) else {
         // No memory has room for as many messages as a number can count.

@@ -20,7 +20,7 @@ use Rattle.sip_states.specs.Held.{Held}
 use Rattle.sip_states.specs.KeyRules.{OwingOf}
 use Rattle.sip_states.specs.Meaning.{Meaning}
 use Rattle.sip_states.specs.declared.any_set.AnySet.{AnySet}
-use Rattle.sip_states.specs.declared.any_set.AnySet.TheVariants.{InviteClient, PlainClient, InviteServer, PlainServer, InviteClient3261, InviteServer3261}
+use Rattle.sip_states.specs.declared.any_set.AnySet.TheVariants as sets
 use Rattle.sip_standard.specs.KeyMachine.{MachineKind, OfInvite, OfPlain, transaction_of}
 use Rattle.sip_standard.specs.declared.role.Role.TheVariants.{Client, Server}
 use Rattle.sip_standard.specs.declared.rules.Rules.TheVariants.{R3261, R6026}
@@ -34,12 +34,12 @@ pub record MachineCode (machine : MachineKind) : Type 1 where
 
 -- each machine as the code has it
 abbrev pub code_of : (machine : MachineKind) → MachineCode machine
-code_of (OfInvite R6026 Client) = record { phases = invite_client_coded; are_coded = invite_client_is_coded; set = λ s. InviteClient s }
-code_of (OfInvite R6026 Server) = record { phases = invite_server_coded; are_coded = invite_server_is_coded; set = λ s. InviteServer s }
-code_of (OfInvite R3261 Client) = record { phases = invite_client_3261_coded; are_coded = invite_client_3261_is_coded; set = λ s. InviteClient3261 s }
-code_of (OfInvite R3261 Server) = record { phases = invite_server_3261_coded; are_coded = invite_server_3261_is_coded; set = λ s. InviteServer3261 s }
-code_of (OfPlain Client) = record { phases = plain_client_coded; are_coded = plain_client_is_coded; set = λ s. PlainClient s }
-code_of (OfPlain Server) = record { phases = plain_server_coded; are_coded = plain_server_is_coded; set = λ s. PlainServer s }
+code_of (OfInvite R6026 Client) = record { phases = invite_client_coded; are_coded = invite_client_is_coded; set = λ s. sets.InviteClient s }
+code_of (OfInvite R6026 Server) = record { phases = invite_server_coded; are_coded = invite_server_is_coded; set = λ s. sets.InviteServer s }
+code_of (OfInvite R3261 Client) = record { phases = invite_client_3261_coded; are_coded = invite_client_3261_is_coded; set = λ s. sets.InviteClient3261 s }
+code_of (OfInvite R3261 Server) = record { phases = invite_server_3261_coded; are_coded = invite_server_3261_is_coded; set = λ s. sets.InviteServer3261 s }
+code_of (OfPlain Client) = record { phases = plain_client_coded; are_coded = plain_client_is_coded; set = λ s. sets.PlainClient s }
+code_of (OfPlain Server) = record { phases = plain_server_coded; are_coded = plain_server_is_coded; set = λ s. sets.PlainServer s }
 
 -- how the code represents the machine
 abbrev pub coded_of : (machine : MachineKind) → Coded (transaction_of machine).Phase
@@ -72,12 +72,12 @@ meaning_of machine =
 module _ {ℓ} (P : AnySet → Type ℓ) (of : (machine : MachineKind) (s : Held Times (CodeOwingOf machine)) → P (set_of machine s)) where
   -- what is given of the set of each machine, given of any set
   abbrev pub each_set : (set : AnySet) → P set
-  each_set (InviteClient s) = of (OfInvite R6026 Client) s
-  each_set (InviteServer s) = of (OfInvite R6026 Server) s
-  each_set (InviteClient3261 s) = of (OfInvite R3261 Client) s
-  each_set (InviteServer3261 s) = of (OfInvite R3261 Server) s
-  each_set (PlainClient s) = of (OfPlain Client) s
-  each_set (PlainServer s) = of (OfPlain Server) s
+  each_set (sets.InviteClient s) = of (OfInvite R6026 Client) s
+  each_set (sets.InviteServer s) = of (OfInvite R6026 Server) s
+  each_set (sets.InviteClient3261 s) = of (OfInvite R3261 Client) s
+  each_set (sets.InviteServer3261 s) = of (OfInvite R3261 Server) s
+  each_set (sets.PlainClient s) = of (OfPlain Client) s
+  each_set (sets.PlainServer s) = of (OfPlain Server) s
 
 -- what is given of the machine of the set and of what the set holds
 abbrev pub by_machine {ℓ} : {A : Type ℓ} → ((machine : MachineKind) → Held Times (CodeOwingOf machine) → A) → AnySet → A

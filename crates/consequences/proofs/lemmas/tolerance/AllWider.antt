@@ -11,9 +11,11 @@ use Rattle.consequences.specs.Tolerance.{tolerant, AreOneKind}
 use Rattle.sip_states.proofs.runs.StandsLemmas.{what_stands_lasts}
 use Rattle.consequences.proofs.lemmas.tolerance.Moments.{is-more-tolerant}
 use Rattle.consequences.proofs.lemmas.tolerance.Wider.{KeepsRuns, wider-keeps}
-use Rattle.consequences.proofs.lemmas.tolerance.InviteClients.{invite_client_keeps_runs, invite_client_3261_keeps_runs}
+use Rattle.consequences.proofs.lemmas.tolerance.InviteClients.{invite_client_keeps_runs}
+use Rattle.consequences.proofs.lemmas.tolerance.InviteServers.{invite_server_keeps_runs}
+use Rattle.consequences.proofs.lemmas.tolerance.InviteClients.{invite_client_3261_keeps_runs}
+use Rattle.consequences.proofs.lemmas.tolerance.InviteServers.{invite_server_3261_keeps_runs}
 use Rattle.consequences.proofs.lemmas.tolerance.PlainClient.{plain_client_keeps_runs}
-use Rattle.consequences.proofs.lemmas.tolerance.InviteServers.{invite_server_keeps_runs, invite_server_3261_keeps_runs}
 use Rattle.consequences.proofs.lemmas.tolerance.PlainServer.{plain_server_keeps_runs}
 
 -- each machine shows that a wider tolerance keeps its runs

@@ -1,5 +1,4 @@
-use Rattle.std.proofs.Common.{take}
-use Rattle.sip_machine.specs.inner.Tos.{AreUnder}
+use Rattle.sip_machine.proofs.Words.{take, AreUnder}
 use Rattle.sip_machine.proofs.tos.hashes_of.Given as goal
 
 -- the numbers of the Tos before the index stand under their hashes

@@ -1,7 +1,4 @@
-use Rattle.std.proofs.Common.{sym, rules}
-use Rattle.std.specs.declared.cmp.Ordering.TheVariants.{Equal}
-use Rattle.std.proofs.lemmas.Cmp.{ranked}
-use Rattle.std.proofs.lemmas.List.Sorted.{answers_always}
+use Rattle.sip_machine.proofs.Words.{sym, rules, Equal, ranked, answers_always}
 use Rattle.sip_machine.proofs.tos.place_of.Goals as goal
 
 -- what the search finds has the number, since the two compare as `Equal` (`ranked`)

@@ -1,8 +1,9 @@
 use Rattle.std.proofs.Common.{rules, ◌≡◌, IfSome, subst, map, string_bytes}
+use Rattle.std.proofs.lemmas.Option.{IfSome_then}
 use Rattle.std.specs.Io.Buffered.{writer_contents, writer_inner}
 use Rattle.std.specs.Io.KnownBytes.{Keeps}
-use Rattle.sip_standard.specs.Answers.{IsAnswer, log_for}
-use Rattle.sip_program.proofs.AnswerLemmas.{IsAnswer-kept, IsAnswerTo-known}
+use Rattle.sip_standard.specs.Answers.{IsAnswer, IsAnswerTo, log_for}
+use Rattle.sip_program.proofs.AnswerLemmas.{IsAnswer-kept}
 use Rattle.sip_program.proofs.running.run.Goals as goal
 
 -- what the writer has got is the answer to the words of the system, since the output was flushed after the answer
@@ -28,9 +29,10 @@ returns-clause-answer g c =
     subst (λ f. IsAnswer asked (log_for asked (g.S.Source.left c.words.new.self) f) before after status) same_file answered in
     let of_input : IsAnswer asked (log_for asked input file) before after status =
     subst (λ i. IsAnswer asked (log_for asked i file) before after status) same_input of_file in
-    -- the answer is that to the words that are known
-    IsAnswerTo-known known words input file before got status told (record {
+    let answer : IsAnswerTo words input file before got status = record {
       asked = asked;
       is_asked = search rules;
       is = IsAnswer-kept asked (log_for asked input file) before after got status of_input kept;
-    })
+    } in
+    -- the words that are known are those that the code has
+    IfSome_then known told (λ theirs same. subst (λ them. IsAnswerTo them input file before got status) same answer)

@@ -2,7 +2,8 @@ use Rattle.std.proofs.Common.{◌≡◌, ◌≢◌, ◌<◌, ◌∙◌, ◌++◌
 use Rattle.std.specs.Prelude.{decimal}
 use Rattle.std.specs.List.{position_or_len, before_first, after_first}
 use Rattle.sip_part.specs.Part.{PartOf}
-use Rattle.sip_survey_program.specs.PartWords.{IsPart, IsPartBetween, IsPartFor, part_word}
+use Rattle.sip_program.specs.WordFor.{IsWordFor}
+use Rattle.sip_survey_program.specs.PartWords.{IsPart, IsPartBetween, part_word}
 use Rattle.sip_survey_program.proofs.Slashes.{is_slash, has_slash, number_before, number_after, split_slash}
 use Rattle.sip_survey_program.proofs.part_word.part_of.Goals as goal
 
@@ -13,7 +14,7 @@ without word none part is same =
 
 -- where the word has a slash, the part between its two numbers is the part of the word
 -- `a` and `b` are what stands before the slash and after it, and `r` is the part that these two name, if they name one
-whole : (word a b : List ℕ) (r : Option PartOf) → position_or_len is_slash word < length word → a ≡ before_first is_slash word → b ≡ after_first is_slash word → IsPartBetween a b r → IsPartFor word r
+whole : (word a b : List ℕ) (r : Option PartOf) → position_or_len is_slash word < length word → a ≡ before_first is_slash word → b ≡ after_first is_slash word → IsPartBetween a b r → IsWordFor IsPart part_word word r
 whole word a b (Some part) within front rest (is, one, two) =
     (is, split_slash word within ∙ ap (λ t. t ++ 47 ∷ after_first is_slash word) (sym front ∙ one) ∙ ap (λ t. decimal part.number ++ 47 ∷ t) (sym rest ∙ two))
 -- the word of a part would have the part's numbers before and after its first slash, and these name no part

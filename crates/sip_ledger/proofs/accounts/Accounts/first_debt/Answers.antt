@@ -1,4 +1,4 @@
-use Rattle.sip_ledger.proofs.Lemmas.{account-at, ap, arith, Debt, eq-eqb, kept-from, List, owed_in, owes-nothing, slice_get, Some, sym, told-start, ◌∙◌}
+use Rattle.sip_ledger.proofs.Lemmas.{account-at, ap, Debt, eq-eqb, List, owed_in, owes-nothing, slice_get, sym}
 use Rattle.sip_ledger.proofs.accounts.Accounts.first_debt.Goals as goal
 
 -- an account that ends where it starts owes nothing
@@ -9,17 +9,3 @@ returns-then-account c =
     let is = account-at c.args.row account c.self.invariant c.self.view_is c.requires c.index-account.ensures in
     let none = (owes-nothing s.gains s.strikes.items account (owed_in c.args.self.now c.args.row) is.0 is.1).0 (eq-eqb account.start account.end c.if-account.true) in
     sym (ap (λ (debts : List Debt). slice_get debts 0) none)
-
--- the place where the account starts is kept
-pub debt_for-requires-clause-kept : goal.debt_for-requires-clause-kept
-debt_for-requires-clause-kept c =
-    let account = c.index-account.result.now in
-    let is = account-at c.args.row account c.self.invariant c.self.view_is c.requires c.index-account.ensures in
-    kept-from account.start c.self.invariant.gained is.0 (omega arith) (omega (arith, c.if-account.false, is.0.order))
-
--- what it gained there is what it owes first
-pub returns : goal.returns
-returns c =
-    let account = c.index-account.result.now in
-    let is = account-at c.args.row account c.self.invariant c.self.view_is c.requires c.index-account.ensures in
-    ap (λ debt. Some debt) c.debt_for.ensures ∙ sym (told-start is.0 (omega (arith, c.if-account.false, is.0.order))) ∙ ap (λ (debts : List Debt). slice_get debts 0) is.1

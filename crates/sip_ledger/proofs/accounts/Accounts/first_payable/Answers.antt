@@ -1,4 +1,4 @@
-use Rattle.sip_ledger.proofs.Lemmas.{account-at, Debt, entries_of, entry_at, first-account, holds, IsFirstPaid, left-kept, List, None, none-account, owed-left, PaysSome, Some, subst}
+use Rattle.sip_ledger.proofs.Lemmas.{account-at, arith, Debt, entries_of, entry_at, first-account, holds, IsFirstPaid, left-kept, List, None, none-account, owed-left, PaysSome, Some, subst}
 use Rattle.sip_ledger.proofs.accounts.Accounts.first_payable.Goals as goal
 
 -- the row is an account
@@ -8,10 +8,7 @@ find_under-requires-clause-account c =
 
 -- what an account owes is kept
 pub entry-requires-clause-kept : goal.entry-requires-clause-kept
-entry-requires-clause-kept c =
-    let s = c.self.inside in
-    let found = rw (c.in-Some.is, c.deref.ensures.value) at c.in_ok-found.ensures.first in
-    left-kept s.gains c.in-Some.place c.self.invariant.gained (owed-left s.gains s.strikes.items c.index-account.result.now c.in-Some.place found.0)
+entry-requires-clause-kept c = grind (arith, left-kept, owed-left)
 
 -- the debt of the row that was found is the first that a send under the key pays
 pub returns-in-Some-clause-first : goal.returns-in-Some-clause-first

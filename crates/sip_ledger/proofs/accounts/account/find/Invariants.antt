@@ -1,10 +1,9 @@
-use Rattle.sip_ledger.proofs.Lemmas.{entries_of, IsSeek, length, NonePays, owes_at, ◌-◌, ◌≤◌}
+use Rattle.sip_ledger.proofs.Lemmas.{entries_of, IsSeek, IsSoughtTo, length, ◌-◌}
 use Rattle.sip_ledger.proofs.accounts.account.find.Given as goal
 
--- the place `from` is not before the account's start, nothing that is owed before it is paid, and what `seek` knows is right
+-- the search has come to the place `from`, and what `seek` knows is right
 abbrev pub invariant-loop-place : goal.invariant-loop-place
-invariant-loop-place l = (l.account.start ≤ l.from) × NonePays (entries_of l.gains) (owes_at l.gains l.strikes l.account) l.message l.moment l.from
-    × IsSeek l.gains l.message l.seek
+invariant-loop-place l = IsSoughtTo l.gains l.strikes l.account l.message l.moment l.from × IsSeek l.gains l.message l.seek
 
 -- each turn of the loop goes to a later place, and the gains end
 abbrev pub decreases-loop-place : goal.decreases-loop-place

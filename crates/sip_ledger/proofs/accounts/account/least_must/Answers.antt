@@ -1,42 +1,36 @@
-use Rattle.sip_ledger.proofs.Lemmas.{arith, entries_long, entries_of, least-first, least-first_due, least-found, least-last, least-passed, left-kept, length, owed-left, sym, ◌<◌, ◌∙◌}
+use Rattle.sip_ledger.proofs.Lemmas.{arith, least-first, least-first_due, least-found, least-last, least-passed, left-kept, owed-left, sym, ◌∙◌}
 use Rattle.sip_ledger.proofs.accounts.account.least_must.Goals.{then-owes+else-gains, else-owes}
 use Rattle.sip_ledger.proofs.accounts.account.least_must.Goals as goal
 
 -- before the first place that is looked at nothing has to be sent, so there is no least deadline yet
 pub loop-place-init : goal.loop-place-init
-loop-place-init c =
-    let from = c.max-from.ensures in
-    least-first c.args.gains.now c.args.strikes.now c.args.account c.max-from.result c.requires.account (omega (arith, from)) (omega (arith, from)) (omega (arith, from))
+loop-place-init c = least-first c.args.gains.now c.args.strikes.now c.args.account c.max-from.result (omega (arith, c.max-from.ensures)) (omega (arith, c.max-from.ensures))
 
 -- where the place is past the account's end, the least so far is the least of all
 pub returns-then-account-place : goal.returns-then-account-place
 returns-then-account-place c =
-    least-last c.args.gains.now c.args.strikes.now c.args.account c.loop-place.from c.in-Some.place c.loop-place.least c.loop-place.invariant c.in-Some.ensures.before c.if-account-place.true
+    least-last c.args.gains.now c.args.strikes.now c.args.account c.in-Some.place c.loop-place.least c.loop-place.invariant c.in-Some.ensures.before c.if-account-place.true
 
 -- the first gain that must be sent has the least deadline, where deadlines rise
 pub returns-then-gains : goal.returns-then-gains
-returns-then-gains c = grind (arith, least-first_due, entries_long)
+returns-then-gains c =
+    let found = c.in-Some.ensures in
+    least-first_due c.loop-place.invariant found.within.0 found.before c.requires.gained c.requires.account found.is (sym c.owes.ensures ∙ c.if-owes.true) (rw c.entry.ensures at c.earlier.ensures) c.if-gains.true
 
 -- what the account owes is kept
 pub entry-requires-clause-kept : goal.entry-requires-clause-kept
-entry-requires-clause-kept c =
-    left-kept c.args.gains.now c.in-Some.place c.requires.gained (owed-left c.args.gains.now c.args.strikes.now c.args.account c.in-Some.place (sym c.owes.ensures ∙ c.if-owes.true))
+entry-requires-clause-kept c = grind (arith, left-kept, owed-left)
 
 -- the least deadline so far is that of the debts up to here that must be sent
 pub loop-place-preserved : goal.loop-place-preserved
 loop-place-preserved c =
     let found = c.in-Some.ensures in
-    let inside : c.in-Some.place < length (entries_of c.args.gains.now) = omega (arith, found.within.1, entries_long c.args.gains.now c.requires.gained.long) in
     elim c.if-owes.branch [
       -- a place that is owed and must be sent is counted in, and any other place is passed over
-      | then-owes+else-gains w ↦
-          rw w.least-is (least-found c.args.gains.now c.args.strikes.now c.args.account c.loop-place.from c.in-Some.place w.earlier.result c.loop-place.least c.loop-place.invariant found.within.0 inside
-          found.before found.is (sym c.owes.ensures ∙ w.if-owes.true) (rw w.entry.ensures at w.earlier.ensures) w.if-gains.false)
-      | else-owes w ↦
-          rw w.least-is (least-passed c.args.gains.now c.args.strikes.now c.args.account c.loop-place.from c.in-Some.place c.loop-place.least c.loop-place.invariant found.within.0 inside found.before
-          (sym c.owes.ensures ∙ w.if-owes.false))
+      | then-owes+else-gains w ↦ rw w.least-is (least-found c.loop-place.invariant found.within.0 found.before c.requires.account found.is (sym c.owes.ensures ∙ w.if-owes.true) (rw w.entry.ensures at w.earlier.ensures) w.if-gains.false)
+      | else-owes w ↦ rw w.least-is (least-passed c.loop-place.invariant found.within.0 found.before (sym c.owes.ensures ∙ w.if-owes.false))
     ]
 
 -- from the place on no gain must be sent, so the least so far is the least of all
 pub returns : goal.returns
-returns c = grind (arith, least-last)
+returns c = least-last c.args.gains.now c.args.strikes.now c.args.account c.args.account.end c.loop-place.least c.loop-place.invariant (λ k low high. c.in_default.ensures.none k low) (omega arith)

@@ -1,4 +1,4 @@
-use Rattle.sip_ledger.proofs.Lemmas.{arith, at-apart, at-more, at-start, end-other, end-same, false≢true, kept-from, refl, rules, sym, ◌∙◌, ◌≡◌, ◌≢◌}
+use Rattle.sip_ledger.proofs.Lemmas.{arith, at-apart, at-more, at-start, end-other, end-same, false≢true, rules, sym, ◌∙◌, ◌≡◌, ◌≢◌}
 use Rattle.sip_ledger.proofs.accounts.account.same.Goals.{then-loop-at-test+else-beside-other, else-loop-at-test}
 use Rattle.sip_ledger.proofs.accounts.account.same.Goals as goal
 
@@ -6,22 +6,12 @@ use Rattle.sip_ledger.proofs.accounts.account.same.Goals as goal
 pub loop-at-init : goal.loop-at-init
 loop-at-init c = at-start c.requires.one c.requires.other
 
--- each place of the one account is kept
-pub debt_for-requires-clause-kept : goal.debt_for-requires-clause-kept
-debt_for-requires-clause-kept c = kept-from c.loop-at.at c.requires.gained c.requires.one c.loop-at.invariant.told.low c.loop-at-test.true
-
--- each place of the other account is kept
-pub debt_for-requires-in-loop-at-clause-kept : goal.debt_for-requires-in-loop-at-clause-kept
-debt_for-requires-in-loop-at-clause-kept c = kept-from c.loop-at.beside c.requires.gained c.requires.other c.loop-at.invariant.told_beside.low c.if-beside-other.true
-
 -- both owe one debt more that is the same
 pub loop-at-preserved : goal.loop-at-preserved
 loop-at-preserved c =
     let same : c.debt_for.result ≡ c.debt_for-in-loop-at.result = search rules in
-    let one = c.next-at.ensures in
-    let other = c.next-beside.ensures in
     at-more c.requires.one c.requires.other c.debt_for.result c.loop-at.invariant c.loop-at-test.true c.if-beside-other.true c.debt_for.ensures (same ∙ c.debt_for-in-loop-at.ensures)
-    c.shared-count.ensures (record { within = one.within; before = one.before; is = one.is }) (record { within = other.within; before = other.before; is = other.is })
+    c.shared-count.ensures c.next-at.ensures c.next-beside.ensures
 
 -- the next debts of the two differ, so the two do not owe the same
 pub returns-then-ne : goal.returns-then-ne

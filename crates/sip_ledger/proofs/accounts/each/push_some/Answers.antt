@@ -1,5 +1,5 @@
 -- `c.loop-row.invariant`: .0 and .1 say that the index is in range, .2 that `seek` is right, .3 what stands after the others for the rows so far.
-use Rattle.sip_ledger.proofs.Lemmas.{account-there, account_debts, accounts_debts, AreAccounts, ArePaidTo, arith, debts_length, inl, paid-grown, paid-next, subst, sym, ◌+◌}
+use Rattle.sip_ledger.proofs.Lemmas.{account-there, account_debts, arith, debts_length, inl, paid-grown, paid-next}
 use Rattle.sip_ledger.proofs.accounts.each.push_some.Goals as goal
 
 -- the row is an account
@@ -15,25 +15,15 @@ returns-in_err-left-clause-accounts c = (paid-grown c.paid.new.strikes.items c.p
 -- where memory was refused, the rows are accounts over the strikes that were put besides
 pub returns-in_err-push_left-clause-accounts : goal.returns-in_err-push_left-clause-accounts
 returns-in_err-push_left-clause-accounts c =
-    let grown = paid-grown c.paid.new.strikes.items c.paid.ensures.kept c.loop-row.invariant.3 in
-    subst (AreAccounts c.args.gains.now c.paid.new.strikes.items) (sym c.in_err-push_left.ensures.err) grown.accounts
+    rw c.in_err-push_left.ensures.err (paid-grown c.paid.new.strikes.items c.paid.ensures.kept c.loop-row.invariant.3).accounts
 
 -- after one row more, the rows up to it that can pay the message are pushed with it paid
 pub loop-row-preserved : goal.loop-row-preserved
 loop-row-preserved c =
-    let g = c.args.gains.now in
-    let seen = accounts_debts g c.args.strikes.now.items c.args.rows.now.items in
-    let long = debts_length g c.args.strikes.now.items c.args.rows.now.items in
+    let long = debts_length c.args.gains.now c.args.strikes.now.items c.args.rows.now.items in
     let low = c.loop-row.invariant.0 in
-    let k = c.loop-row.row in
-    let one = c.loop-row.strikes.items in
-    let new = c.paid.new.strikes.items in
     -- the strikes that came in leave the rows before it as they were
-    let at = account-there k c.index.result.now c.loop-row.invariant.3 (omega (arith, long, c.requires.to)) c.index.ensures in
-    let grown = paid-grown new c.paid.ensures.kept c.loop-row.invariant.3 in
-    let next = paid-next (account_debts g one c.index.result.now) c.in_ok-left.left grown c.in_ok-left.ensures.account c.in_ok-left.ensures.debts at.1 low (omega (arith, long, c.requires.to)) in (
-      omega (arith, low),
-      inl (omega arith),
-      c.paid.ensures.seek,
-      subst (λ r. ArePaidTo g c.args.message c.args.moment c.args.from (k + 1) seen new r) (sym c.in_ok-push_left.ensures.ok) next,
-    )
+    let at = account-there c.loop-row.row c.index.result.now c.loop-row.invariant.3 (omega (arith, long, c.requires.to)) c.index.ensures in
+    let grown = paid-grown c.paid.new.strikes.items c.paid.ensures.kept c.loop-row.invariant.3 in
+    let next = paid-next (account_debts c.args.gains.now c.loop-row.strikes.items c.index.result.now) c.in_ok-left.left grown c.in_ok-left.ensures.account c.in_ok-left.ensures.debts at.1 low (omega (arith, long, c.requires.to)) in
+    (omega (arith, low), inl (omega arith), c.paid.ensures.seek, rw c.in_ok-push_left.ensures.ok next)

@@ -1,9 +1,10 @@
 use Rattle.std.proofs.Common.{◌∙◌, ap}
 use Rattle.sip_standard.specs.Solid.{solid}
 use Rattle.sip_message.specs.Reads.{Reads}
+use Rattle.sip_message.specs.SaidOf.{said_of}
+use Rattle.sip_message.proofs.lemmas.says.Reading.{says-no_fault}
 use Rattle.sip_machine.specs.Texts.{text_of}
 use Rattle.sip_machine.specs.inner.Tos.{IsToOf}
-use Rattle.sip_machine.proofs.acks.AckLemmas.{Reads-fault}
 use Rattle.sip_machine.proofs.acks.ToLemmas.{IsToOf-same}
 use Rattle.sip_machine.proofs.book.Book.is_read_with.Goals as goal
 
@@ -20,4 +21,4 @@ returns-in_ok-solid_of-in-Some c =
 pub returns-in-None : goal.returns-in-None
 returns-in-None c =
     let fault = rw c.in-None.is at c.in_ok-message.ensures in
-    (λ no. cc, λ its. absurd (Reads-fault (text_of c.args.self.now c.args.number) fault.0 fault.1 its.message its.reads))
+    (λ no. cc, λ its. absurd (says-no_fault (text_of c.args.self.now c.args.number) (said_of its.message) fault.0 its.reads.says fault.1))

@@ -1,15 +1,31 @@
-use Rattle.std.proofs.Common.{◌∙◌, ap, get_or, subst, sym}
-use Rattle.std.specs.Prelude.{All, IfOk}
-use Rattle.std.proofs.lemmas.Result.{IfOk-weaker}
-use Rattle.sip_standard.specs.Solid.{solid}
-use Rattle.sip_machine.specs.Owes.{owed_in, owes_names}
-use Rattle.sip_machine.specs.Texts.{Keeps, text_of}
-use Rattle.sip_machine.specs.inner.Acks.{HasTo, PaysDebt}
-use Rattle.sip_machine.specs.inner.Paying.{FindsFirst}
-use Rattle.sip_message.proofs.lemmas.says.Reading.{says-no_fault}
-use Rattle.sip_machine.proofs.acks.AckLemmas.{AckOf-by_to, AckOf-none}
+use Rattle.sip_machine.proofs.Words.{◌∙◌, ap, get_or, sym, IfOk-weaker, solid, owed_in, text_of, HasTo, PaysDebt, says-no_fault, ◌≡◌, ◌↔◌, ℕ, Bool, false, IsTrue, List, true≢false, Reading, Reads, Said, said_of, says-reads, AckOf, IsAckOf, SameSolid, ack-of_says, IsToOf}
 use Rattle.sip_machine.proofs.acks.HolderLemmas.{FindsFirst-same}
 use Rattle.sip_machine.proofs.invite_client.acks.first_acked.Goals as goal
+
+-- where an ACK belongs to the response to an INVITE, the bytes of the response are read as a message, and what the three say is so related
+AckOf-read : (ack invite response : List ℕ) (a i : Reading) → Reads ack a → Reads invite i → AckOf ack invite response
+    → (r : Reading) × Reads response r × IsAckOf (said_of a) (said_of i) (said_of r)
+AckOf-read ack invite response a i reads_a reads_i of =
+    -- `of.2` is what the response says, and `of.5` that its bytes say this; so they are read as a message
+    let read = says-reads response of.2 of.5 in
+    (read.0, read.1, (ack-of_says ack invite response (said_of a) (said_of i) (said_of read.0) reads_a.says reads_i.says read.1.says).0 of)
+
+-- What follows is of an ACK and an INVITE: a and i are how they are read, and `is` says whether the ACK is one for the INVITE's `response`.
+module _ (ack invite response : List ℕ) (a i : Reading) (is : Bool) (reads_a : Reads ack a) (reads_i : Reads invite i)
+    (tells : (r : Said) → SameSolid (said_of a).to r.to → IsTrue is ↔ IsAckOf (said_of a) (said_of i) r) where
+  -- where an ACK is one for the INVITE whatever the response is, it belongs to each response that has the To of the ACK
+  AckOf-by_to : IsTrue is → (to : List ℕ) → to ≡ solid a.parts.to → IsToOf response to ↔ AckOf ack invite response
+  AckOf-by_to true to to_is = (
+    -- if the response has the To of the ACK, the ACK belongs to it, since it is one for the INVITE; if it belongs to it, the response has its To
+    λ its. (ack-of_says ack invite response (said_of a) (said_of i) (said_of its.message) reads_a.says reads_i.says its.reads.says).1 ((tells (said_of its.message) (sym to_is ∙ its.is)).0 true),
+    λ of. let (r, reads, both) = AckOf-read ack invite response a i reads_a reads_i of in record { message = r; reads = reads; is = to_is ∙ both.to },
+  )
+
+  -- an ACK that does not belong to the INVITE belongs to no response to it
+  AckOf-none : is ≡ false → AckOf ack invite response → ⊥
+  AckOf-none not_so of =
+      let (r, reads, both) = AckOf-read ack invite response a i reads_a reads_i of in
+      true≢false (sym ((tells (said_of r) both.to).1 both) ∙ not_so)
 
 -- the bytes of the event are no message, so they are the ACK for nothing
 pub returns-in_default-clause-finds : goal.returns-in_default-clause-finds
@@ -31,8 +47,7 @@ returns-then-not-is_ack_for-clause-finds c =
 
 -- the accounts have what each row owes, and the book keeps the messages of all that the row owes
 pub first_with_to-requires-clause-owed : goal.first_with_to-requires-clause-owed
-first_with_to-requires-clause-owed c =
-    subst (λ rows. All (Keeps c.args.book.now) (owes_names (owed_in rows c.args.row))) (sym c.in-Some-accounts.ensures.some) c.requires.owed
+first_with_to-requires-clause-owed c = rw c.in-Some-accounts.ensures.some c.requires.owed
 
 -- an ACK pays the debts whose response has its To and belongs to the INVITE, so the first with that To is the first that it pays
 pub returns-clause-finds : goal.returns-clause-finds
@@ -50,5 +65,4 @@ returns-clause-finds c =
     let by_to = AckOf-by_to ack invite response c.in-Some.ack c.in-Some-2.invite c.is_ack_for.result
     (rw (c.in-Some.is, c.number.ensures) at c.in_ok-ack.ensures) (rw c.in-Some-2.is at c.in_ok-invite.ensures) c.is_ack_for.ensures c.if-not-is_ack_for.false c.of-to.result to in
     (λ has. (by_to.0 has.0, has.1), λ pays. (by_to.1 pays.0, pays.1))) finds)
-    (subst (λ rows. IfOk c.first_with_to.result (FindsFirst (HasTo texts c.of-to.result t) t (owed_in rows c.args.row))) c.in-Some-accounts.ensures.some
-    (rw c.moment.ensures at c.first_with_to.ensures))
+    (rw (c.in-Some-accounts.ensures.some, c.moment.ensures) at c.first_with_to.ensures)

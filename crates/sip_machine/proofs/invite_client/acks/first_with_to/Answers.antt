@@ -1,6 +1,4 @@
-use Rattle.std.proofs.Common.{◌∙◌, sym}
-use Rattle.sip_machine.specs.Owes.{owed_in}
-use Rattle.sip_machine.specs.inner.Acks.{HasTo}
+use Rattle.sip_machine.proofs.Words.{◌∙◌, sym, owed_in, HasTo}
 use Rattle.sip_machine.proofs.debts.LookLemmas.{first-here}
 use Rattle.sip_machine.proofs.invite_client.acks.first_with_to.Goals as goal
 

@@ -1,4 +1,4 @@
-use Rattle.std.proofs.Common.{true≢false, sym, ◌∙◌}
+use Rattle.sip_machine.proofs.Words.{true≢false, sym, ◌∙◌}
 use Rattle.sip_machine.proofs.debts.LookLemmas.{with-none, with-one, with-other}
 use Rattle.sip_machine.proofs.invite_client.acks.with_to.Goals as goal
 use Rattle.sip_machine.proofs.invite_client.acks.with_to.Goals.{then-branch+in_ok-put, else-branch}

@@ -1,4 +1,4 @@
-use Rattle.std.specs.Prelude.{take}
+use Rattle.sip_machine.proofs.Words.{take}
 use Rattle.sip_machine.proofs.debts.LookLemmas.{AreWith}
 use Rattle.sip_machine.proofs.invite_client.acks.with_to.Given as goal
 

@@ -1,5 +1,4 @@
-use Rattle.sip_machine.proofs.Words.{◌∙◌, sym, true≢false}
-use Rattle.sip_machine.proofs.pools.FirstLemmas.{first-more, first-again, Any-here}
+use Rattle.sip_machine.proofs.pools.FirstLemmas.{first-told, first-again}
 use Rattle.sip_machine.proofs.pool.Pool.first_of_few.Goals as goal
 use Rattle.sip_machine.proofs.pool.Pool.first_of_few.Goals.{then-not-is_among+in_ok-push, else-not-is_among}
 
@@ -15,8 +14,6 @@ loop-at-preserved g c =
     -- the state has no equal among the first ones, or it has one
     elim c.if-not-is_among.branch [
       | then-not-is_among+in_ok-push w ↦
-          rw (w.rows-is, w.in_ok-push.ensures.items)
-          (first-more xs c.args.from at rows c.loop-at.auto.at first
-          (λ x i d low same. true≢false (sym ((among x).1 (Any-here xs rows i d at x low same)) ∙ w.if-not-is_among.true)))
+          rw (w.rows-is, w.in_ok-push.ensures.items) (first-told xs c.args.from at rows c.is_among.result c.loop-at.auto.at first among w.if-not-is_among.true)
       | else-not-is_among w ↦ rw w.rows-is (first-again xs c.args.from at rows first (λ x. (among x).0 w.if-not-is_among.false))
     ]

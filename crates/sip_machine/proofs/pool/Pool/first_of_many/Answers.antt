@@ -1,6 +1,6 @@
 -- At each turn of the loop (`c.loop-at.invariant`) part 0 says that the rows are the first ones, 1 that the slots have as many prints, 2 that they are theirs.
-use Rattle.sip_machine.proofs.Words.{◌≡◌, ◌<◌, ◌+◌, ◌-◌, ◌∷◌, [], get_or, length, ◌∙◌, ap, sym, subst, arith, inl, inr, true≢false, cases_lt, get_or_default, get_or_append_left, get_or_push, length_push, AreFirstOnes}
-use Rattle.sip_machine.proofs.pools.FirstLemmas.{first-more, first-again, Any-here}
+use Rattle.sip_machine.proofs.Words.{◌≡◌, ◌<◌, ◌+◌, ◌-◌, ◌∷◌, [], get_or, length, ◌∙◌, ap, sym, subst, arith, inl, inr, cases_lt, get_or_default, get_or_append_left, get_or_push, length_push, AreFirstOnes}
+use Rattle.sip_machine.proofs.pools.FirstLemmas.{first-told, first-again}
 use Rattle.sip_machine.proofs.pool.Pool.first_of_many.Goals as goal
 use Rattle.sip_machine.proofs.pool.Pool.first_of_many.Goals.{then-not-is_repeat+in_ok-push+in_ok-push-2, else-not-is_repeat}
 
@@ -15,23 +15,19 @@ loop-at-preserved g c =
     -- `kept` are the prints in the slots, and `print` is that of the state at hand
     let kept = c.loop-at.slots.prints in
     let print = c.index-print.result.now in
-    -- `at_from` says that `at` is not before `from`, where the loop begins
-    let at_from = c.loop-at.auto.at in
     -- the state has an equal before it exactly if one of the first ones is equal
     let (first, long, told) = c.loop-at.invariant in
     let repeats = rw c.deref.ensures.value at c.is_repeat.ensures in
     elim c.if-not-is_repeat.branch [
       -- no state before it is equal, so its row is one of the first ones
       | then-not-is_repeat+in_ok-push+in_ok-push-2 w ↦
-          let within : at < length xs = omega arith in
-          let low_at : at - from < length prints = omega (arith, within, c.in_ok-prints.ensures.long, at_from) in
+          let low_at : at - from < length prints = omega (arith, c.in_ok-prints.ensures.long) in
           let here : get_or prints (at - from) 0 ≡ print = get_or_default prints (at - from) 0 print low_at ∙ sym c.index-print.ensures in
           let more_rows = length_push rows at in
           let more_kept = length_push kept print in
           -- the rows have one more, and the print of each row stands beside it
           rw (w.rows-is, w.slots-is, w.in_ok-push.ensures.ok, w.in_ok-push-2.ensures.items) (
-            first-more xs from at rows at_from first
-                (λ x i d low same. true≢false (sym ((repeats x).1 (Any-here xs rows i d at x low same)) ∙ w.if-not-is_repeat.true)),
+            first-told xs from at rows c.is_repeat.result c.loop-at.auto.at first repeats w.if-not-is_repeat.true,
             more_kept ∙ ap (λ n. n + 1) long ∙ sym more_rows,
             -- each row has its print, the new one too
             (λ k low. elim (cases_lt k (length rows)) [

@@ -1,5 +1,5 @@
-use Rattle.sip_machine.proofs.Words.{◌<◌, All, length, ◌∙◌, ap, ap₂, arith, picked, beside}
-use Rattle.sip_machine.proofs.pools.PoolLemmas.{beside-length}
+use Rattle.sip_machine.proofs.Words.{◌<◌, All, length, ◌∙◌, ap, ap₂, get_or, picked, beside}
+use Rattle.sip_machine.proofs.pools.PoolLemmas.{in-phases}
 use Rattle.sip_machine.proofs.pools.PoolEachLemmas.{beside-picked}
 use Rattle.sip_machine.proofs.pool.Pool.keep.Goals as goal
 
@@ -9,8 +9,6 @@ returns-in-None g c = λ x.
     let phases = c.self.inside.phases.items in
     let rows = c.self.inside.dues in
     let kept = c.args.rows.now in
-    -- there are as many states as phases, so each index is one of a phase
-    let size = beside-length phases rows in
-    let view = ap length c.self.view_is in
-    let within : All (λ row. row < length phases) kept = λ k d low. let w = c.requires.within k d low in omega (arith, size, view, w) in
+    -- each index is one of a phase
+    let within : All (λ row. row < length phases) kept = λ k d low. in-phases phases rows c.args.self.now (get_or kept k d) c.self.view_is (c.requires.within k d low) in
     ap₂ beside (c.keep_phases.ensures.are x.phase) c.keep.ensures ∙ beside-picked phases rows kept x within ∙ ap (λ xs. picked xs x kept) c.self.view_is

@@ -1,6 +1,6 @@
 use Rattle.std.proofs.Common.{arith, subst, sym}
 use Rattle.sip_machine.specs.inner.Slots.{AreSlots}
-use Rattle.sip_machine.proofs.pools.SlotsLemmas.{pair-print, pair-older}
+use Rattle.sip_machine.proofs.pools.SlotsLemmas.{pair-at}
 use Rattle.sip_machine.proofs.slots.Slots.before.Goals as goal
 
 -- the last print of the slot before this one stands among the prints
@@ -10,7 +10,7 @@ last_from-requires c =
     let are : AreSlots s = subst AreSlots c.self.view_is c.self.invariant in
     let low = c.requires in
     -- the pair at `at` tells one past the index of the print before it in its slot, which is not above `at`
-    let older = pair-older c.self.inside.newest.items c.self.inside.kept.items s c.args.at c.index-kept.result.now c.self.view_is low c.index-kept.ensures in
+    let older = (pair-at c.self.inside.newest.items c.self.inside.kept.items s c.args.at c.index-kept.result.now c.self.view_is low c.index-kept.ensures).1 in
     let within = (are.older_is c.args.at low).within in
     omega (arith, older, within, low)
 
@@ -27,6 +27,5 @@ returns c =
     let are : AreSlots s = subst AreSlots c.self.view_is c.self.invariant in
     let low = c.requires in
     -- the print of the pair, and the index that it tells, are those of the prints by slots
-    let print = pair-print newest kept s at x c.self.view_is low c.index-kept.ensures in
-    let older = pair-older newest kept s at x c.self.view_is low c.index-kept.ensures in
+    let (print, older) = pair-at newest kept s at x c.self.view_is low c.index-kept.ensures in
     rw print (c.last_from.ensures at (omega (arith, low)) (rw (sym print, sym older) (are.older_is at low)))

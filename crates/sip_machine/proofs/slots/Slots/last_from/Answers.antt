@@ -1,7 +1,7 @@
 -- At each turn of the loop (`c.loop-next.invariant`) part 0 says that `next` is not past the prints, and 1 that no print passed so far is the one looked for.
 use Rattle.std.proofs.Common.{◌-◌, ◌<◌, ◌∙◌, arith, length, subst, sym}
 use Rattle.sip_machine.specs.inner.Slots.{AreSlots}
-use Rattle.sip_machine.proofs.pools.SlotsLemmas.{pair-print, pair-older, reached-more}
+use Rattle.sip_machine.proofs.pools.SlotsLemmas.{pair-at, reached-more}
 use Rattle.sip_machine.proofs.slots.Slots.last_from.Goals as goal
 
 -- no print between this one and the older one of its slot is equal to the one that is looked for
@@ -18,8 +18,7 @@ loop-next-preserved c =
     let are : AreSlots s = subst AreSlots c.self.view_is c.self.invariant in
     -- the print that is looked at leads to an older one of its slot
     let low : at < length s.prints = omega (arith, some, c.loop-next.invariant.0) in
-    let print = pair-print newest kept s at x c.self.view_is low c.index-kept.ensures in
-    let older = pair-older newest kept s at x c.self.view_is low c.index-kept.ensures in
+    let (print, older) = pair-at newest kept s at x c.self.view_is low c.index-kept.ensures in
     let within = (are.older_is at low).within in (
       omega (arith, older, within, low),
       -- no print between the two is equal to it

@@ -1,17 +1,14 @@
-use Rattle.sip_ledger.proofs.Lemmas.{arith, flags-dropped, Gains, gains-dropped, length, refl, ◌+◌, ◌-◌, ◌∙◌, ◌≡◌}
+use Rattle.sip_ledger.proofs.Lemmas.{arith, gains-dropped, length, refl, ◌+◌, ◌-◌, ◌∙◌, ◌≡◌}
 use Rattle.sip_ledger.proofs.accounts.gains.Gains.drop_to.Goals as goal
 
 -- without the gains before the place, those from it on are as they were
 pub returns : goal.returns
 returns c =
     let g = c.args.self.now in
-    let new : Gains = record { entries = c.drop_first.new.items; flags = c.drop_first-2.new.items; end = g.end; messages = g.messages; musts = g.musts; rises = g.rises; highest = g.highest } in
     let len : c.len.result ≡ length g.entries.items = c.len.ensures ∙ g.entries.ok.0 in
-    let long = c.requires.gained.long in
-    let from = c.requires.from in
     let count = c.args.place - (g.end - c.len.result) in
     -- the gains and their flags are those from the place on
-    let here : count + (g.end - length g.entries.items) ≡ c.args.place = omega (arith, len, long, from) in
-    let all = gains-dropped g new c.args.place count c.requires.gained here c.requires.within c.drop_first.ensures refl refl refl refl refl c.requires.none
-    (flags-dropped g new c.args.place count c.requires.gained.flags long here c.requires.within c.drop_first.ensures c.drop_first-2.ensures refl) in
+    let here : count + (g.end - length g.entries.items) ≡ c.args.place = omega (arith, len, c.requires.gained.long, c.requires.from) in
+    let all = gains-dropped g (record g { entries = c.drop_first.new.items; flags = c.drop_first-2.new.items }) c.args.place count c.requires.gained here c.requires.within
+    c.drop_first.ensures c.drop_first-2.ensures refl refl refl refl refl c.requires.none in
     record { gained = all.0; dropped = all.1 }

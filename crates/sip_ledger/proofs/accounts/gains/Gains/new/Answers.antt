@@ -1,4 +1,4 @@
-use Rattle.sip_ledger.proofs.Lemmas.{none-entries, none-gained, refl, true}
+use Rattle.sip_ledger.proofs.Lemmas.{none-gained, refl, true}
 use Rattle.sip_ledger.proofs.accounts.gains.Gains.new.Goals as goal
 
 -- no entries and empty indices are gains
@@ -6,8 +6,3 @@ pub returns-clause-gained : goal.returns-clause-gained
 returns-clause-gained c =
     none-gained (record { entries = c.new.result; flags = c.new-2.result; end = 0; messages = c.new-3.result; musts = c.new-4.result; rises = true; highest = 0 })
     c.new.ensures.items c.new-2.ensures.items refl c.new-3.ensures c.new-4.ensures
-
--- there are no entries
-pub returns-clause-none : goal.returns-clause-none
-returns-clause-none c =
-    none-entries (record { entries = c.new.result; flags = c.new-2.result; end = 0; messages = c.new-3.result; musts = c.new-4.result; rises = true; highest = 0 }) c.new.ensures.items refl

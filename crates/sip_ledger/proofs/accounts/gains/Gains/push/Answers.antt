@@ -1,30 +1,25 @@
-use Rattle.sip_ledger.proofs.Lemmas.{ap, arith, common_steps, entries_long, Entry, Flags, flags-more, flags-same, Gains, gains-more, gains-same, holds, leb-true, nat_le, on-error, refl, rules, true, [], ◌++◌, ◌+◌, ◌∙◌, ◌∷◌, ◌≡◌}
+use Rattle.sip_ledger.proofs.Lemmas.{ap, arith, common_steps, Entry, Flags, Gains, gains-more, gains-same, holds, leb-true, nat_le, on-error, refl, rules, true, [], ◌++◌, ◌+◌, ◌∙◌, ◌∷◌, ◌≡◌}
 use Rattle.sip_ledger.proofs.accounts.gains.Gains.push.Goals as goal
 
 -- where memory is refused for more entries, the gains are the same
 pub returns-in_err-reserve : goal.returns-in_err-reserve
 returns-in_err-reserve c =
-    let g = c.args.self.now in
-    let new : Gains = record { entries = c.reserve.new.self; flags = g.flags; end = g.end; messages = g.messages; musts = g.musts; rises = g.rises; highest = g.highest } in
-    let all = gains-same g new c.requires c.reserve.ensures.items refl (λ m k. refl) (λ k. refl) refl refl (flags-same g new c.requires.flags c.reserve.ensures.items refl refl) in
+    let all = gains-same c.args.self.now (record c.args.self.now { entries = c.reserve.new.self }) c.requires c.reserve.ensures.items refl refl (λ m k. refl) (λ k. refl) refl refl in
     record { gained = all.0; ok = first_of (search rules, grind (arith, common_steps)); err = on-error c.from_residual.result c.from_residual.ensures.0 all.1 }
 
 -- where memory is refused, the gains are the same
 pub returns-in_err-reserve-2 : goal.returns-in_err-reserve-2
 returns-in_err-reserve-2 c =
-    let g = c.args.self.now in
-    let new : Gains = record { entries = c.reserve.new.self; flags = c.reserve-2.new.self; end = g.end; messages = g.messages; musts = g.musts; rises = g.rises; highest = g.highest } in
-    let all = gains-same g new c.requires c.reserve.ensures.items refl (λ m k. refl) (λ k. refl) refl refl
-    (flags-same g new c.requires.flags c.reserve.ensures.items c.reserve-2.ensures.items refl) in
+    let all = gains-same c.args.self.now (record c.args.self.now { entries = c.reserve.new.self; flags = c.reserve-2.new.self }) c.requires c.reserve.ensures.items c.reserve-2.ensures.items refl
+    (λ m k. refl) (λ k. refl) refl refl in
     record { gained = all.0; ok = first_of (search rules, grind (arith, common_steps)); err = on-error c.from_residual-in_err-reserve-2.result c.from_residual-in_err-reserve-2.ensures.0 all.1 }
 
 -- where memory is refused, the gains are the same
 pub returns-in_err-note : goal.returns-in_err-note
 returns-in_err-note c =
-    let g = c.args.self.now in
-    let new : Gains = record { entries = c.reserve.new.self; flags = c.reserve-2.new.self; end = g.end; messages = c.note.new.messages; musts = c.note.new.musts; rises = g.rises; highest = g.highest } in
-    let all = gains-same g new c.requires c.reserve.ensures.items refl c.in_err-note.ensures.err.0 (λ k. ap (λ l. holds l 0 k) c.in_err-note.ensures.err.1) refl refl
-    (flags-same g new c.requires.flags c.reserve.ensures.items c.reserve-2.ensures.items refl) in
+    let noted = c.in_err-note.ensures.err in
+    let all = gains-same c.args.self.now (record c.args.self.now { entries = c.reserve.new.self; flags = c.reserve-2.new.self; messages = c.note.new.messages; musts = c.note.new.musts }) c.requires
+    c.reserve.ensures.items c.reserve-2.ensures.items refl noted.0 (λ k. ap (λ l. holds l 0 k) noted.1) refl refl in
     record { gained = all.0; ok = first_of (search rules, grind (arith, common_steps)); err = on-error c.from_residual-in_err-note.result c.from_residual-in_err-note.ensures.0 all.1 }
 
 -- with the new gain, its entry, its flags and its places in the indexes are right
@@ -39,9 +34,7 @@ returns c =
     -- the entry and its flags stand after the others
     let entries : new.entries.items ≡ g.entries.items ++ e ∷ [] = c.push_reserved.ensures.items ∙ ap (λ l. l ++ e ∷ []) c.reserve.ensures.items in
     let flags : new.flags.items ≡ g.flags.items ++ f ∷ [] = c.push_reserved-2.ensures.items ∙ ap (λ l. l ++ f ∷ []) c.reserve-2.ensures.items in
-    let all = gains-more g new c.args.debt c.requires entries refl (omega (arith, end, small)) c.in_ok-note.ensures.ok (rw c.deref.ensures.value at c.rise-rises.ensures)
-    (omega (arith, c.max-self.ensures)) (omega (arith, c.max-self.ensures))
     -- a gain is the newest of its kind where no kept message is greater
-    (flags-more g new c.args.debt (nat_le g.highest c.args.debt.message) c.requires.flags
-    (λ newest k kept. let low = c.requires.highest k kept in omega (arith, low, leb-true g.highest c.args.debt.message newest)) c.requires.long (entries_long g c.requires.long) entries flags refl) in
+    let all = gains-more g new c.args.debt (nat_le g.highest c.args.debt.message) c.requires entries flags refl (omega (arith, end, small)) c.in_ok-note.ensures.ok
+    (leb-true g.highest c.args.debt.message) (rw c.deref.ensures.value at c.rise-rises.ensures) (omega (arith, c.max-self.ensures)) (omega (arith, c.max-self.ensures)) in
     record { gained = all.0; ok = all.1; err = tt }

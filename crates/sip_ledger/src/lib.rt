@@ -5,9 +5,10 @@ mod accounts;
 mod debt;
 mod front;
 mod index;
+mod numbers;
 mod run;
 
 pub use crate::accounts::Accounts;
 pub use crate::debt::Debt;
-pub use crate::index::Index;
+pub use crate::numbers::Numbers;
 pub use crate::run::Run;

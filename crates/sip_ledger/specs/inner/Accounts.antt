@@ -204,6 +204,16 @@ pub record IsNext (gains : Gains) (message from : ℕ) (place : Option ℕ) : Ty
   pub before : IfSome place (λ at. (k : ℕ) → from ≤ k → k < at → holds gains.messages message k ≡ false)
   pub none : IfNone place ((k : ℕ) → from ≤ k → holds gains.messages message k ≡ false)
 
+-- `message` is the first message from `from` on that passes the test and of which a place may be left: of those before it none is
+pub record IsNextLeft (pairs : List (ℕ × ℕ)) (test : ℕ → Bool) (from message : ℕ) : Type 0 where
+  pub is : test message ≡ true
+  pub after : from ≤ message
+  pub none_before : (m k : ℕ) → from ≤ m → m < message → test m ≡ true → holds pairs m k ≡ false
+
+-- nothing is left of messages from `from` on that pass the test
+abbrev pub NoneLeft : List (ℕ × ℕ) → (ℕ → Bool) → ℕ → Type 0
+NoneLeft pairs test from = (m k : ℕ) → from ≤ m → test m ≡ true → holds pairs m k ≡ false
+
 -- what a seek knows is right: from its `low` on, the message is left first at its place, or nowhere
 abbrev pub IsSeek : Gains → ℕ → Seek → Type 0
 IsSeek gains message seek = IsNext gains message seek.low seek.place

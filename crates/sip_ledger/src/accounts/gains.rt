@@ -2,6 +2,7 @@
 ghost use Rattle.std.specs.Prelude.{◌≡◌, ◌<◌, ◌≤◌, ◌+◌, ◌==◌, ◌&&◌, ◌++◌, ◌∷◌};
 ghost use Rattle.sip_ledger.specs.inner.Words.{ℕ, [], IfSome, IfNone, MatchOption, OnOk, OnErr, cond, length, true, false, OnTrue, AreGains, AreRising, AreSameGains, IsDropped, IsGain, IsUndropped, IsLetGo, IsNext, IsNoted, IsPlaceOf, IsSeek, entries_of, entry_at, flags_at, holds, least_in};
 
+use crate::accounts::places::Places;
 use crate::accounts::seek::Seek;
 use crate::debt::{Debt, Entry};
 use crate::front;
@@ -30,7 +31,7 @@ pub(crate) struct Gains {
     /// How many gains there were.
     pub end: usize,
     /// The places of the gains that are left, under the messages.
-    pub messages: Index,
+    pub messages: Places,
     /// The places of what must be sent, under 0.
     pub musts: Index,
     /// Whether no deadline is below the one before it, as far as gains are kept.
@@ -50,7 +51,7 @@ impl Gains {
             entries: Vec::new(alloc),
             flags: Vec::new(alloc),
             end: 0,
-            messages: Index::new(alloc),
+            messages: Places::new(alloc),
             musts: Index::new(alloc),
             rises: true,
             highest: 0,
@@ -244,7 +245,7 @@ impl Gains {
 }
 
 /// Puts the place of a gain under its message, and among those of what must be sent if it must. On an error it stands nowhere.
-fn note(messages: &mut Index, musts: &mut Index, place: u64, debt: Debt) -> Result<(), AllocError>
+fn note(messages: &mut Places, musts: &mut Index, place: u64, debt: Debt) -> Result<(), AllocError>
     requires message { (m : ℕ) → holds messages.old m place ≡ false }
     requires must { holds musts.old 0 place ≡ false }
     ensures ok { OnOk result (IsNoted place debt messages.old musts.old messages.new musts.new) }

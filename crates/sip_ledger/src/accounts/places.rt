@@ -1,0 +1,90 @@
+//! The places of what is left of each message.
+ghost use Rattle.std.specs.Prelude.{◌≡◌, ◌==◌, ◌&&◌, ◌≤◌, ℕ, cond, true, false, [], IfSome, IfNone, OnOk, OnErr};
+ghost use Rattle.sip_ledger.specs.Indexes.{holds, IsFirstFrom, IsNextUnder, NoneFrom};
+ghost use Rattle.sip_ledger.specs.inner.Accounts.{IsNextLeft, NoneLeft};
+
+use crate::index::Index;
+use crate::numbers::Numbers;
+use std::alloc::{AllocError, Global};
+use std::marker::Model;
+
+/// The places at which gains are left, under their messages, and the set of these messages. Contracts see the pairs of a message and a place, in order.
+#[derive(Debug, Drop)]
+pub(crate) struct Places {
+    pairs: Index,
+    messages: Numbers,
+}
+
+impl Model for Places {
+    ghost use Rattle.std.specs.Prelude.{◌≡◌, ℕ, true, List};
+    ghost use Rattle.sip_ledger.specs.Indexes.{holds};
+
+    ghost Value = { List (ℕ × ℕ) };
+
+    ghost view = { λ p. p.pairs };
+
+    // Each message under which a place stands is in the set.
+    ghost invariant = { λ p. (m k : ℕ) → holds p.pairs m k ≡ true → p.messages m ≡ true };
+}
+
+impl Places {
+    /// No places.
+    pub(crate) fn new(alloc: Global) -> Self
+        ensures { result ≡ [] }
+    {
+        Places {
+            pairs: Index::new(alloc),
+            messages: Numbers::new(alloc),
+        }
+    }
+
+    /// Puts the place under the message. On an error all is as before.
+    pub(crate) fn put(&mut self, message: u64, place: u64) -> Result<(), AllocError>
+        ensures ok { OnOk result ((m k : ℕ) → holds self.new m k ≡ cond (m == message && k == place) true (holds self.old m k)) }
+        ensures err { OnErr result (self.new ≡ self.old) }
+    {
+        self.messages.put(message)?;
+        self.pairs.put(message, place)
+    }
+
+    /// Takes the place from the message, if it stands there.
+    pub(crate) fn take(&mut self, message: u64, place: u64)
+        ensures { (m k : ℕ) → holds self.new m k ≡ cond (m == message && k == place) false (holds self.old m k) }
+    {
+        self.pairs.take(message, place);
+        if self.pairs.next(message, 0).is_none() {
+            self.messages.take(message);
+        }
+    }
+
+    /// The first pair from this message and place on, in the order of messages and then of places.
+    pub(crate) fn first_from(&self, message: u64, place: u64) -> Option<(u64, u64)>
+        ensures found { IfSome result (IsFirstFrom self.now message place) }
+        ensures none { IfNone result (NoneFrom self.now message place) }
+    {
+        self.pairs.first_from(message, place)
+    }
+
+    /// The first place of the message, from this one on.
+    pub(crate) fn next(&self, message: u64, from: u64) -> Option<u64>
+        ensures found { IfSome result (IsNextUnder self.now message from) }
+        ensures none { IfNone result ((k : ℕ) → from ≤ k → holds self.now message k ≡ false) }
+    {
+        self.pairs.next(message, from)
+    }
+
+    /// The first of these messages from this one on of which a place is here. It may tell one of which none is any more, but passes over none of which one is.
+    pub(crate) fn next_among(&self, messages: &Numbers, from: u64) -> Option<u64>
+        ensures found { IfSome result (IsNextLeft self.now messages.now from) }
+        ensures none { IfNone result (NoneLeft self.now messages.now from) }
+    {
+        messages.next_in_both(&self.messages, from)
+    }
+
+    /// Two messages: the least and the greatest under which places stand, or 0 and 0 where there are no places.
+    pub(crate) fn span(&self) -> (u64, u64)
+        ensures { (m k : ℕ) → holds self.now m k ≡ true → (result.0 ≤ m) × (m ≤ result.1) }
+    {
+        self.pairs.span()
+    }
+}

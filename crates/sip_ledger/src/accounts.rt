@@ -3,7 +3,7 @@ ghost use Rattle.std.specs.Prelude.{◌≡◌, ◌↔◌, ◌<◌, ◌≤◌, �
 ghost use Rattle.std.specs.List.{list_any};
 ghost use Rattle.sip_ledger.specs.Accounts.{owed_in, AppendsOwed};
 ghost use Rattle.sip_ledger.specs.Debts.{IsFirstPaid, PaysSome, counts_at, softened_debt, is_payable, debt_deadlines, earliest, paid_by};
-ghost use Rattle.sip_ledger.specs.Numbers.{HasMany};
+ghost use Rattle.sip_ledger.specs.Numbers.{HasMany, numbers_of};
 ghost use Rattle.sip_ledger.specs.Lists.{Rise};
 ghost use Rattle.sip_ledger.specs.Runs.{AreRuns};
 
@@ -153,8 +153,8 @@ impl Accounts {
         most: usize,
     ) -> Option<Option<u64>>
         requires { row < length self.now }
-        ensures first { IfSome result (IsFirstPaid (PaysSome messages.now moment) moment (owed_in self.now row)) }
-        ensures told { IfNone result (HasMany messages.now most) }
+        ensures first { IfSome result (IsFirstPaid (PaysSome (numbers_of messages.now) moment) moment (owed_in self.now row)) }
+        ensures told { IfNone result (HasMany (numbers_of messages.now) most) }
     {
         let account = self.rows[row];
         let (gains, strikes) = (&self.gains, &self.strikes);

@@ -1,7 +1,7 @@
 //! Sets of numbers.
 ghost use Rattle.std.specs.Prelude.{◌≡◌, ◌==◌, ◌<◌, ◌≤◌, ◌^◌, ℕ, cond, true, false, IfSome, IfNone, OnOk, OnErr};
-ghost use Rattle.sip_ledger.specs.Numbers.{IsFirstInBoth, NoneInBoth};
-ghost use Rattle.sip_ledger.specs.inner.Numbers.{AreWords, IsFirstOf, IsPlaceFor, has_bit};
+ghost use Rattle.sip_ledger.specs.Numbers.{IsFirstInBoth, NoneInBoth, has_bit, numbers_of};
+ghost use Rattle.sip_ledger.specs.inner.Numbers.{AreWords, IsFirstOf, IsPlaceFor};
 
 use std::alloc::{AllocError, Global};
 use std::marker::Model;
@@ -13,20 +13,22 @@ struct Word {
     bits: u64,
 }
 
-/// A set of numbers, in which 64 numbers in a row stand in one word. Contracts see for each number whether it is there.
+/// A set of numbers, in which 64 numbers in a row stand in one word. Contracts see the words, and ask only whether one of them has a number.
 #[derive(Debug, Drop)]
 pub struct Numbers {
     words: Vec<Word>,
 }
 
 impl Model for Numbers {
-    ghost use Rattle.std.specs.Prelude.{ℕ, Bool};
-    ghost use Rattle.sip_ledger.specs.inner.Numbers.{AreWords, numbers_of};
+    ghost use Rattle.std.specs.Prelude.{List};
+    ghost use Rattle.sip_ledger.specs.declared.numbers.Word.{Word};
 
-    // What a set means is which numbers are there.
-    ghost Value = { ℕ → Bool };
+    // What a set means is its words, of which `numbers_of` tells which numbers are there.
+    ghost Value = { List Word };
 
-    ghost view = { λ n. numbers_of n.words.items };
+    ghost use Rattle.sip_ledger.specs.inner.Numbers.{AreWords};
+
+    ghost view = { λ n. n.words.items };
 
     // The words are in order, one for each block of 64 numbers.
     ghost invariant = { λ n. AreWords n.words.items };
@@ -35,7 +37,7 @@ impl Model for Numbers {
 impl Numbers {
     /// A set without numbers.
     pub fn new(alloc: Global) -> Self
-        ensures { (n : ℕ) → result n ≡ false }
+        ensures { (n : ℕ) → numbers_of result n ≡ false }
     {
         Numbers {
             words: Vec::new(alloc),
@@ -44,7 +46,7 @@ impl Numbers {
 
     /// Puts the number in. On an error the set is as before.
     pub fn put(&mut self, number: u64) -> Result<(), AllocError>
-        ensures ok { OnOk result ((n : ℕ) → self.new n ≡ cond (n == number) true (self.old n)) }
+        ensures ok { OnOk result ((n : ℕ) → numbers_of self.new n ≡ cond (n == number) true (numbers_of self.old n)) }
         ensures err { OnErr result (self.new ≡ self.old) }
     {
         let block = number / 64;
@@ -60,7 +62,7 @@ impl Numbers {
 
     /// Takes the number out, if it is there.
     pub fn take(&mut self, number: u64)
-        ensures { (n : ℕ) → self.new n ≡ cond (n == number) false (self.old n) }
+        ensures { (n : ℕ) → numbers_of self.new n ≡ cond (n == number) false (numbers_of self.old n) }
     {
         let block = number / 64;
         let at = place_for(&self.words, block);
@@ -77,8 +79,8 @@ impl Numbers {
 
     /// The first number from `from` on that is in both sets.
     pub fn next_in_both(&self, other: &Numbers, from: u64) -> Option<u64>
-        ensures found { IfSome result (IsFirstInBoth self.now other.now from) }
-        ensures none { IfNone result (NoneInBoth self.now other.now from) }
+        ensures found { IfSome result (IsFirstInBoth (numbers_of self.now) (numbers_of other.now) from) }
+        ensures none { IfNone result (NoneInBoth (numbers_of self.now) (numbers_of other.now) from) }
     {
         let mut at = place_for(&self.words, from / 64);
         let mut beside = place_for(&other.words, from / 64);

@@ -1,17 +1,9 @@
-use Rattle.std.specs.Prelude.{◌≡◌, ◌<◌, ◌≤◌, ◌==◌, ◌&&◌, ◌/◌, ◌%◌, ◌^◌, ℕ, Bool, true, false, List, All, AllPairs, length}
-use Rattle.std.specs.List.{AllWithin, list_any}
+use Rattle.std.specs.Prelude.{◌≡◌, ◌<◌, ◌≤◌, ◌^◌, ℕ, true, false, List, All, AllPairs, length}
+use Rattle.std.specs.List.{AllWithin}
+use Rattle.sip_ledger.specs.Numbers.{has_bit}
 use Rattle.sip_ledger.specs.declared.numbers.Word.{Word}
-use Rattle.sip_masks.specs.Bits.{test}
 
--- Sets of numbers as words, each of which has a bit for each of 64 numbers in a row.
-
--- whether the word has the number: it is of the block of 64 numbers in which the number is, and the bit of the number is set
-abbrev pub has_bit : ℕ → Word → Bool
-has_bit number word = word.block == number / 64 && test word.bits (number % 64)
-
--- whether one of the words has the number
-unfoldable pub numbers_of : List Word → ℕ → Bool
-numbers_of words number = list_any (has_bit number) words
+-- The words of a set of numbers, in order.
 
 -- the blocks of the words rise, and are blocks of the code's numbers
 pub record AreWords (words : List Word) : Type 0 where

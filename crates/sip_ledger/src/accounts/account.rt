@@ -1,6 +1,6 @@
 //! What one row owes of what was gained.
 ghost use Rattle.std.specs.Prelude.{◌≡◌, ◌≢◌, ◌↔◌, ◌<◌, ◌≤◌, ◌*◌, ◌%◌, ◌^◌, ◌++◌, ◌∷◌, ◌+◌};
-ghost use Rattle.sip_ledger.specs.inner.Words.{[], ℕ, Bool, true, false, Some, IfOk, IfSome, IfNone, IsTrue, OnOk, OnErr, bit_xor, filter, length, option_to_list, take, OnTrue, counts_at, debt_deadlines, earliest, is_timely, paid_by, worth_of, debt_of, Account, AreGains, IsAccount, IsAfter, IsExpiredTo, IsFirstPaying, IsFirstPayable, IsGainAt, IsUndropped, IsNextGain, IsPlaceOf, IsSeek, IsStruck, IsWithout, KeepsAccounts, SharesNext, account_debts, entries_of, entry_at, is_struck, must_at, owes_at, pays_at, softened_account, sooner, strikes_of, HasMany, holds};
+ghost use Rattle.sip_ledger.specs.inner.Words.{[], ℕ, Bool, true, false, Some, IfOk, IfSome, IfNone, IsTrue, OnOk, OnErr, bit_xor, filter, length, option_to_list, take, OnTrue, counts_at, debt_deadlines, earliest, is_timely, paid_by, worth_of, debt_of, Account, AreGains, IsAccount, IsAfter, IsExpiredTo, IsFirstPaying, IsFirstPayable, IsGainAt, IsUndropped, IsNextGain, IsPlaceOf, IsSeek, IsStruck, IsWithout, KeepsAccounts, SharesNext, account_debts, entries_of, entry_at, is_struck, must_at, owes_at, pays_at, softened_account, sooner, strikes_of, HasMany, holds, numbers_of};
 
 use crate::accounts::gains::Gains;
 use crate::accounts::seek::Seek;
@@ -188,8 +188,8 @@ pub(crate) fn find_first(
 ) -> Option<Option<usize>>
     requires gained { AreGains gains.now }
     requires account { IsAccount gains.now strikes.now account }
-    ensures first { IfSome result (IsFirstPaying (entries_of gains.now) (owes_at gains.now strikes.now account) messages.now moment) }
-    ensures told { IfNone result (HasMany messages.now most) }
+    ensures first { IfSome result (IsFirstPaying (entries_of gains.now) (owes_at gains.now strikes.now account) (numbers_of messages.now) moment) }
+    ensures told { IfNone result (HasMany (numbers_of messages.now) most) }
 {
     let mut first = None;
     let mut from = 0;

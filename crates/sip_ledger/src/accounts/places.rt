@@ -1,6 +1,7 @@
 //! The places of what is left of each message.
 ghost use Rattle.std.specs.Prelude.{◌≡◌, ◌==◌, ◌&&◌, ◌≤◌, ℕ, cond, true, false, [], IfSome, IfNone, OnOk, OnErr};
 ghost use Rattle.sip_ledger.specs.Indexes.{holds, IsFirstFrom, IsNextUnder, NoneFrom};
+ghost use Rattle.sip_ledger.specs.Numbers.{numbers_of};
 ghost use Rattle.sip_ledger.specs.inner.Accounts.{IsNextLeft, NoneLeft};
 
 use crate::index::Index;
@@ -18,13 +19,14 @@ pub(crate) struct Places {
 impl Model for Places {
     ghost use Rattle.std.specs.Prelude.{◌≡◌, ℕ, true, List};
     ghost use Rattle.sip_ledger.specs.Indexes.{holds};
+    ghost use Rattle.sip_ledger.specs.Numbers.{numbers_of};
 
     ghost Value = { List (ℕ × ℕ) };
 
     ghost view = { λ p. p.pairs };
 
     // Each message under which a place stands is in the set.
-    ghost invariant = { λ p. (m k : ℕ) → holds p.pairs m k ≡ true → p.messages m ≡ true };
+    ghost invariant = { λ p. (m k : ℕ) → holds p.pairs m k ≡ true → numbers_of p.messages m ≡ true };
 }
 
 impl Places {
@@ -75,8 +77,8 @@ impl Places {
 
     /// The first of these messages from this one on of which a place is here. It may tell one of which none is any more, but passes over none of which one is.
     pub(crate) fn next_among(&self, messages: &Numbers, from: u64) -> Option<u64>
-        ensures found { IfSome result (IsNextLeft self.now messages.now from) }
-        ensures none { IfNone result (NoneLeft self.now messages.now from) }
+        ensures found { IfSome result (IsNextLeft self.now (numbers_of messages.now) from) }
+        ensures none { IfNone result (NoneLeft self.now (numbers_of messages.now) from) }
     {
         messages.next_in_both(&self.messages, from)
     }

@@ -37,7 +37,7 @@ pub many-more : (test : ℕ → Bool) (count below number : ℕ) → HasManyBelo
 many-more test count below number was after passes =
     let numbers = was.many.numbers in
     let rise : Rise (numbers ++ number ∷ []) = λ i k early late.
-        grind (arith, nat_tests, cases_lt, get_or_append_left, length_push, get_or_push, was.many.rise i k, All-get_or) in
+    grind (arith, nat_tests, cases_lt, get_or_append_left, length_push, get_or_push, was.many.rise i k, All-get_or) in
     record {
       many = record { numbers = numbers ++ number ∷ []; rise = rise; many = grind (arith, length_push, was.many.many); pass = All-push (λ n. IsTrue (test n)) numbers number was.many.pass passes };
       low = All-push (λ n. n < number + 1) numbers number (All-weaker (λ n. n < below) (λ n. n < number + 1) (λ n low. omega (arith, low, after)) numbers was.low) (omega arith);

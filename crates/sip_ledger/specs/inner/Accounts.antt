@@ -1,7 +1,5 @@
 use Rattle.std.specs.Prelude.{◌≡◌, ◌≢◌, ◌==◌, ◌&&◌, ◌||◌, ◌<◌, ◌≤◌, ◌+◌, ◌-◌, ◌^◌, ℕ, Bool, true, false, not, cond, Option, Some, None, IfSome, IfNone, List, [], ◌∷◌, ◌++◌, All, drop, get_or, length, map, min, nat_le, nat_lt, replicate, set, take}
 use Rattle.std.specs.List.{list_any}
-use Rattle.std.specs.declared.ops.Bound.{Bound}
-use Rattle.std.specs.declared.ops.Bound.TheVariants.{Excluded, Included, Unbounded}
 use Rattle.sip_ledger.specs.declared.debt.Debt.{Debt}
 use Rattle.sip_ledger.specs.declared.debt.Entry.{Entry}
 use Rattle.sip_ledger.specs.declared.run.Run.{Run}
@@ -33,11 +31,10 @@ entries_of gains = replicate (gains.end - length gains.entries.items) blank ++ g
 unfoldable pub is_left : Gains → ℕ → Bool
 is_left gains k = holds gains.messages (entry_at (entries_of gains) k).message k
 
--- the least number in the bound
-abbrev pub least_in : Bound ℕ → ℕ
-least_in Unbounded = 0
-least_in (Included message) = message
-least_in (Excluded message) = message + 1
+-- the least number after the last one, or of all
+abbrev pub least_after : Option ℕ → ℕ
+least_after None = 0
+least_after (Some last) = last + 1
 
 -- the gain at the place is kept
 pub record IsUndropped (gains : Gains) (k : ℕ) : Type 0 where
@@ -203,16 +200,6 @@ pub record IsNext (gains : Gains) (message from : ℕ) (place : Option ℕ) : Ty
   pub left : IfSome place (λ at. holds gains.messages message at ≡ true)
   pub before : IfSome place (λ at. (k : ℕ) → from ≤ k → k < at → holds gains.messages message k ≡ false)
   pub none : IfNone place ((k : ℕ) → from ≤ k → holds gains.messages message k ≡ false)
-
--- `message` is the first message from `from` on that passes the test and of which a place may be left: of those before it none is
-pub record IsNextLeft (pairs : List (ℕ × ℕ)) (test : ℕ → Bool) (from message : ℕ) : Type 0 where
-  pub is : test message ≡ true
-  pub after : from ≤ message
-  pub none_before : (m k : ℕ) → from ≤ m → m < message → test m ≡ true → holds pairs m k ≡ false
-
--- nothing is left of messages from `from` on that pass the test
-abbrev pub NoneLeft : List (ℕ × ℕ) → (ℕ → Bool) → ℕ → Type 0
-NoneLeft pairs test from = (m k : ℕ) → from ≤ m → test m ≡ true → holds pairs m k ≡ false
 
 -- what a seek knows is right: from its `low` on, the message is left first at its place, or nowhere
 abbrev pub IsSeek : Gains → ℕ → Seek → Type 0

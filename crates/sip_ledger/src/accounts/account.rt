@@ -76,10 +76,13 @@ fn next(gains: &Gains, strikes: &[Strike], account: Account, from: usize) -> usi
     ensures { IsAfter gains.now strikes.now account from result }
 {
     let mut place = from;
-    while place < account.end && !owes(gains, strikes, account, place) {
-        place += 1;
+    while place < account.end {
+        if owes(gains, strikes, account, place) {
+            return place;
+        }
+        place = gains.next_left(place + 1);
     }
-    place
+    account.end
 }
 
 /// A number for a message and a deadline, which tells most apart at once. Its upper half is mixed in at the end, since the multiplications carry upwards

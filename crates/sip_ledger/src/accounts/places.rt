@@ -1,32 +1,33 @@
 //! The places of what is left of each message.
-ghost use Rattle.std.specs.Prelude.{◌≡◌, ◌==◌, ◌&&◌, ◌≤◌, ℕ, cond, true, false, [], IfSome, IfNone, OnOk, OnErr};
+ghost use Rattle.std.specs.Prelude.{◌≡◌, ◌==◌, ◌&&◌, ◌<◌, ◌≤◌, ℕ, cond, true, false, [], IfSome, IfNone, OnOk, OnErr};
 ghost use Rattle.sip_ledger.specs.Indexes.{holds, IsFirstFrom, IsNextUnder, NoneFrom};
 ghost use Rattle.sip_ledger.specs.Numbers.{numbers_of};
-ghost use Rattle.sip_ledger.specs.inner.Accounts.{IsNextLeft, NoneLeft};
+ghost use Rattle.sip_ledger.specs.inner.Places.{IsNextLeft, NoneLeft};
 
 use crate::index::Index;
 use crate::numbers::Numbers;
 use std::alloc::{AllocError, Global};
 use std::marker::Model;
 
-/// The places at which gains are left, under their messages, and the set of these messages. Contracts see the pairs of a message and a place, in order.
+/// The places at which gains are left, each under its message; and the set of these messages, and that of these places. Contracts see the pairs of a
+/// message and a place, in order.
 #[derive(Debug, Drop)]
 pub(crate) struct Places {
     pairs: Index,
     messages: Numbers,
+    places: Numbers,
 }
 
 impl Model for Places {
-    ghost use Rattle.std.specs.Prelude.{◌≡◌, ℕ, true, List};
-    ghost use Rattle.sip_ledger.specs.Indexes.{holds};
-    ghost use Rattle.sip_ledger.specs.Numbers.{numbers_of};
+    ghost use Rattle.std.specs.Prelude.{ℕ, List};
+    ghost use Rattle.sip_ledger.specs.inner.Places.{ArePlaces};
 
     ghost Value = { List (ℕ × ℕ) };
 
     ghost view = { λ p. p.pairs };
 
-    // Each message under which a place stands is in the set.
-    ghost invariant = { λ p. (m k : ℕ) → holds p.pairs m k ≡ true → numbers_of p.messages m ≡ true };
+    // Each message and each place of a pair is in its set, and a place stands under one message.
+    ghost invariant = { λ p. ArePlaces p.pairs p.messages p.places };
 }
 
 impl Places {
@@ -37,15 +38,18 @@ impl Places {
         Places {
             pairs: Index::new(alloc),
             messages: Numbers::new(alloc),
+            places: Numbers::new(alloc),
         }
     }
 
-    /// Puts the place under the message. On an error all is as before.
+    /// Puts the place under the message, where it stands under none. On an error all is as before.
     pub(crate) fn put(&mut self, message: u64, place: u64) -> Result<(), AllocError>
+        requires { (m : ℕ) → holds self.old m place ≡ false }
         ensures ok { OnOk result ((m k : ℕ) → holds self.new m k ≡ cond (m == message && k == place) true (holds self.old m k)) }
         ensures err { OnErr result (self.new ≡ self.old) }
     {
         self.messages.put(message)?;
+        self.places.put(place)?;
         self.pairs.put(message, place)
     }
 
@@ -53,7 +57,10 @@ impl Places {
     pub(crate) fn take(&mut self, message: u64, place: u64)
         ensures { (m k : ℕ) → holds self.new m k ≡ cond (m == message && k == place) false (holds self.old m k) }
     {
-        self.pairs.take(message, place);
+        if !self.pairs.take(message, place) {
+            return;
+        }
+        self.places.take(place);
         if self.pairs.next(message, 0).is_none() {
             self.messages.take(message);
         }
@@ -81,6 +88,16 @@ impl Places {
         ensures none { IfNone result (NoneLeft self.now (numbers_of messages.now) from) }
     {
         messages.next_in_both(&self.messages, from)
+    }
+
+    /// The first place from this one on that stands under some message. It may tell one that stands under none any more, but passes over none that stands
+    /// under one.
+    pub(crate) fn next_place(&self, from: u64) -> Option<u64>
+        ensures low { IfSome result (λ place. from ≤ place) }
+        ensures before { IfSome result (λ place. (m k : ℕ) → from ≤ k → k < place → holds self.now m k ≡ false) }
+        ensures none { IfNone result ((m k : ℕ) → from ≤ k → holds self.now m k ≡ false) }
+    {
+        self.places.next_in_both(&self.places, from)
     }
 
     /// Two messages: the least and the greatest under which places stand, or 0 and 0 where there are no places.

@@ -2,4 +2,5 @@
 pub mod OneBitLemmas
 pub mod BlockLemmas
 pub mod PlaceLemmas
+pub mod FirstLemmas
 pub mod BothLemmas

@@ -8,21 +8,17 @@ use Rattle.sip_ledger.proofs.bits.PlaceLemmas.{take-there, take-last, take-none}
 use Rattle.sip_ledger.proofs.numbers.Numbers.take.Goals as goal
 use Rattle.sip_ledger.proofs.numbers.Numbers.take.Goals.{then-at-len-via-then-at-len, then-at-len-via-else-at-len+then-index-block}
 
--- no word is of the block of the number
-no-word : (c : goal.Then-at-len) → c.place_for-at.result < length c.self.inside.words.items → (d : Word) → (get_or c.self.inside.words.items c.place_for-at.result d).block ≢ c.args.number / 64
-no-word c within d is = elim c.then-at-len.branch [
-  then-at-len-via-then-at-len w ↦ absurd (omega arith)
-  | then-at-len-via-else-at-len+then-index-block w ↦
-      w.if-index-block.true (ap (λ (w : Word). w.block) (get_or_read c.self.inside.words.items c.place_for-at.result w.index.result.now within w.index.ensures d) ∙ is)
-]
-
--- the number is not there
+-- no word is of the block of the number, so the number is not there
 pub returns-then-at-len : goal.returns-then-at-len
 returns-then-at-len c =
     let words = c.self.inside.words.items in
+    let at = c.place_for-at.result in
     let place = rw c.deref.ensures.value at c.place_for-at.ensures in
-    subst (λ ws. (n : ℕ) → numbers_of ws n ≡ cond (n == c.args.number) false (numbers_of ws n)) c.self.view_is
-    (take-none words c.args.number c.place_for-at.result c.self.invariant place (no-word c))
+    let no_word : at < length words → (d : Word) → (get_or words at d).block ≢ c.args.number / 64 = λ within d is. elim c.then-at-len.branch [
+      then-at-len-via-then-at-len w ↦ absurd (omega arith)
+      | then-at-len-via-else-at-len+then-index-block w ↦ w.if-index-block.true (ap (λ (w : Word). w.block) (get_or_read words at w.index.result.now within w.index.ensures d) ∙ is)
+    ] in
+    subst (λ ws. (n : ℕ) → numbers_of ws n ≡ cond (n == c.args.number) false (numbers_of ws n)) c.self.view_is (take-none words c.args.number at c.self.invariant place no_word)
 
 -- the word of the block has no other number, and is taken away
 pub returns-then-bits-eq0 : goal.returns-then-bits-eq0

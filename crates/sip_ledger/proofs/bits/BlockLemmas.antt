@@ -1,15 +1,12 @@
 -- What words in order tell of a number, and what they tell after one of them is put in, changed or taken out.
-use Rattle.std.proofs.Common.{◌≡◌, ◌≢◌, ℕ, ◌+◌, ◌-◌, ◌/◌, ◌%◌, ◌<◌, ◌≤◌, Bool, true, false, cond, ◌==◌, ◌&&◌, ◌||◌, List, ◌∷◌, ◌++◌, length, take, drop, get_or, bit_and, bit_or, refl, sym, ap, ◌∙◌, subst, inl, inr, arith}
-use Rattle.std.specs.List.{All, AllPairs, AllWithin, insert}
+use Rattle.std.proofs.Common.{◌≡◌, ◌≢◌, ℕ, ◌-◌, ◌/◌, ◌%◌, ◌<◌, true, false, cond, ◌==◌, ◌||◌, List, ◌∷◌, ◌++◌, bit_and, bit_or, refl, sym, ap, ◌∙◌, inl, inr, arith}
+use Rattle.std.specs.List.{All}
 use Rattle.std.proofs.Math.Bool.{or-false}
-use Rattle.std.proofs.lemmas.Bool.{cases_eq, cases_lt, eq-eqb, ne_eqb}
-use Rattle.std.proofs.lemmas.List.{get_or-drop, get_or-take, length-drop, length-take-le, take-append-drop}
-use Rattle.std.proofs.lemmas.List.Edits.{get_or-insert_below, get_or-insert_at, get_or-insert_above, length-insert}
+use Rattle.std.proofs.lemmas.Bool.{cases_eq, eq-eqb, ne_eqb}
 use Rattle.std.proofs.lemmas.List.Elements.{All-weaker}
 use Rattle.std.proofs.lemmas.List.Folds.{list_any-append, list_any_none}
 use Rattle.sip_ledger.specs.Numbers.{has_bit, numbers_of}
 use Rattle.sip_ledger.specs.declared.numbers.Word.{Word}
-use Rattle.sip_ledger.specs.inner.Numbers.{AreWords, IsPlaceFor}
 use Rattle.sip_masks.specs.Bits.{test}
 use Rattle.sip_masks.proofs.RunLemmas.{none-set}
 use Rattle.sip_ledger.proofs.bits.OneBitLemmas.{bit_of, test-added, test-cleared}

@@ -1,11 +1,10 @@
 -- The place of the word of a block among words in order: what stands before and after it, and what the words tell after a change there.
-use Rattle.std.proofs.Common.{◌≡◌, ◌≢◌, ℕ, suc, ◌+◌, ◌-◌, ◌/◌, ◌^◌, ◌<◌, ◌≤◌, true, false, cond, ◌==◌, List, ◌∷◌, ◌++◌, length, take, drop, get_or, set, bit_and, bit_or, add-one, refl, sym, ap, ◌∙◌, subst, inl, inr, arith}
-use Rattle.std.specs.List.{All, AllPairs, insert, remove}
+use Rattle.std.proofs.Common.{◌≡◌, ◌≢◌, ℕ, suc, ◌+◌, ◌-◌, ◌/◌, ◌<◌, ◌≤◌, true, false, cond, ◌==◌, List, ◌∷◌, ◌++◌, length, take, drop, get_or, set, bit_and, bit_or, add-one, sym, ap, ◌∙◌, subst, inl, inr, arith}
+use Rattle.std.specs.List.{All, insert, remove}
 use Rattle.std.specs.List.Sorted.{IsNonDecreasingBy}
-use Rattle.std.proofs.lemmas.Bool.{cases_eq, cases_lt}
+use Rattle.std.proofs.lemmas.Bool.{cases_lt}
 use Rattle.std.proofs.lemmas.Grind.{elements}
 use Rattle.std.proofs.lemmas.List.{drop_more, get_or-drop, get_or-take, get_or_read, length-drop, length-take-le, set_split, take-append-drop}
-use Rattle.std.proofs.lemmas.List.Edits.{get_or-insert_below, get_or-insert_at, get_or-insert_above, length-insert}
 use Rattle.sip_ledger.specs.Numbers.{numbers_of}
 use Rattle.sip_ledger.specs.declared.numbers.Word.{Word}
 use Rattle.sip_ledger.specs.inner.Numbers.{AreWords, IsPlaceFor}
@@ -72,51 +71,53 @@ split-word words at word within is =
 
 -- What follows is of a number and the place of its block.
 module _ (words : List Word) (number at : ℕ) (in_order : AreWords words) (place : IsPlaceFor words (number / 64) at) where
-  -- where the word of the block stands, adding the bit puts the number in
-  pub put-there : (word : Word) → at < length words → word ≡ get_or words at word → word.block ≡ number / 64 →
-      (n : ℕ) → numbers_of (set words at record { block = word.block; bits = bit_or word.bits (bit_of number) }) n ≡ cond (n == number) true (numbers_of words n)
-  put-there word within is block n =
-      let before = before-place words (number / 64) at place in
-      let after = subst (λ b. All (λ w. b < w.block) (drop (suc at) words)) block (after-word words at word in_order within is) in
-      ap (λ ws. numbers_of ws n) (set_split words at record { block = word.block; bits = bit_or word.bits (bit_of number) } within)
-      ∙ added number (take at words) (drop (suc at) words) before after word block n
-      ∙ ap (λ ws. cond (n == number) true (numbers_of ws n)) (sym (split-word words at word within is))
+  before : All (λ word. word.block < number / 64) (take at words)
+  before = before-place words (number / 64) at place
 
-  -- where the word of the block stands, clearing the bit takes the number out
-  pub take-there : (word : Word) → at < length words → word ≡ get_or words at word → word.block ≡ number / 64 →
-      (n : ℕ) → numbers_of (set words at record { block = word.block; bits = bit_and word.bits (18446744073709551615 - bit_of number) }) n ≡ cond (n == number) false (numbers_of words n)
-  take-there word within is block n =
-      let before = before-place words (number / 64) at place in
-      let after = subst (λ b. All (λ w. b < w.block) (drop (suc at) words)) block (after-word words at word in_order within is) in
-      ap (λ ws. numbers_of ws n) (set_split words at record { block = word.block; bits = bit_and word.bits (18446744073709551615 - bit_of number) } within)
-      ∙ cleared number (take at words) (drop (suc at) words) before after word block n
-      ∙ ap (λ ws. cond (n == number) false (numbers_of ws n)) (sym (split-word words at word within is))
+  -- What follows is where a word is of the block.
+  module _ (word : Word) (within : at < length words) (is : word ≡ get_or words at word) (block : word.block ≡ number / 64) where
+    after : All (λ w. number / 64 < w.block) (drop (suc at) words)
+    after = subst (λ b. All (λ w. b < w.block) (drop (suc at) words)) block (after-word words at word in_order within is)
 
-  -- where the word of the block has no other bit, taking it away takes the number out
-  pub take-last : (word : Word) → at < length words → word ≡ get_or words at word → word.block ≡ number / 64 → bit_and word.bits (18446744073709551615 - bit_of number) ≡ 0 →
-      (n : ℕ) → numbers_of (remove words at) n ≡ cond (n == number) false (numbers_of words n)
-  take-last word within is block none n =
-      let before = before-place words (number / 64) at place in
-      let after = subst (λ b. All (λ w. b < w.block) (drop (suc at) words)) block (after-word words at word in_order within is) in
-      ended number (take at words) (drop (suc at) words) before after word block none n
-      ∙ ap (λ ws. cond (n == number) false (numbers_of ws n)) (sym (split-word words at word within is))
+    split : words ≡ take at words ++ word ∷ drop (suc at) words
+    split = split-word words at word within is
+
+    -- where the bit of the number is added to the word, the number is there besides
+    pub put-there : (n : ℕ) → numbers_of (set words at record { block = word.block; bits = bit_or word.bits (bit_of number) }) n ≡ cond (n == number) true (numbers_of words n)
+    put-there n =
+        ap (λ ws. numbers_of ws n) (set_split words at record { block = word.block; bits = bit_or word.bits (bit_of number) } within)
+        ∙ added number (take at words) (drop (suc at) words) before after word block n
+        ∙ ap (λ ws. cond (n == number) true (numbers_of ws n)) (sym split)
+
+    -- where the bit of the number is cleared in the word, the number is there no more
+    pub take-there : (n : ℕ) →
+        numbers_of (set words at record { block = word.block; bits = bit_and word.bits (18446744073709551615 - bit_of number) }) n ≡ cond (n == number) false (numbers_of words n)
+    take-there n =
+        ap (λ ws. numbers_of ws n) (set_split words at record { block = word.block; bits = bit_and word.bits (18446744073709551615 - bit_of number) } within)
+        ∙ cleared number (take at words) (drop (suc at) words) before after word block n
+        ∙ ap (λ ws. cond (n == number) false (numbers_of ws n)) (sym split)
+
+    -- where the word has no other bit and is taken away, the number is there no more
+    pub take-last : bit_and word.bits (18446744073709551615 - bit_of number) ≡ 0 → (n : ℕ) → numbers_of (remove words at) n ≡ cond (n == number) false (numbers_of words n)
+    take-last none n =
+        ended number (take at words) (drop (suc at) words) before after word block none n ∙ ap (λ ws. cond (n == number) false (numbers_of ws n)) (sym split)
 
   -- What follows is where no word is of the block.
   module _ (other : at < length words → (d : Word) → (get_or words at d).block ≢ number / 64) where
-    -- a new word with the bit alone puts the number in
+    greater : All (λ word. number / 64 < word.block) (drop at words)
+    greater = after-gap words (number / 64) at in_order place other
+
+    -- where a word with the bit of the number alone is put in, the number is there besides
     pub put-new : (n : ℕ) → numbers_of (insert words at record { block = number / 64; bits = bit_of number }) n ≡ cond (n == number) true (numbers_of words n)
-    put-new n =
-        begun number (take at words) (drop at words) (before-place words (number / 64) at place) (after-gap words (number / 64) at in_order place other) n
-        ∙ ap (λ ws. cond (n == number) true (numbers_of ws n)) (take-append-drop at words)
+    put-new n = begun number (take at words) (drop at words) before greater n ∙ ap (λ ws. cond (n == number) true (numbers_of ws n)) (take-append-drop at words)
 
     -- the number is not there
     pub take-none : (n : ℕ) → numbers_of words n ≡ cond (n == number) false (numbers_of words n)
     take-none n =
-        subst (λ ws. numbers_of ws n ≡ cond (n == number) false (numbers_of ws n)) (take-append-drop at words)
-        (missing number (take at words) (drop at words) (before-place words (number / 64) at place) (after-gap words (number / 64) at in_order place other) n)
+        subst (λ ws. numbers_of ws n ≡ cond (n == number) false (numbers_of ws n)) (take-append-drop at words) (missing number (take at words) (drop at words) before greater n)
 
-    -- with a new word at the place, the words are in order
+    -- with a word of the block put in, the words are in order
     pub words-more : (word : Word) → number < 18446744073709551616 → word.block ≡ number / 64 → AreWords (insert words at word)
     words-more word small block =
-        let after = after-gap words (number / 64) at in_order place other in
+        let after = greater in
         record { rise = λ i j d less below. grind (arith, elements, in_order.rise, place.before, place.after); small = λ i d below. grind (arith, elements, in_order.small) }

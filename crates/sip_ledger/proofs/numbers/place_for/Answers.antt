@@ -1,4 +1,4 @@
-use Rattle.std.proofs.Common.{◌-◌, length, nat_lt, rules, subst, arith}
+use Rattle.std.proofs.Common.{◌-◌, length, nat_lt, rules, subst}
 use Rattle.std.proofs.lemmas.Bool.{ltb-true, ltb-false}
 use Rattle.std.proofs.lemmas.Fn.{always_returns_same}
 use Rattle.std.proofs.lemmas.List.Sorted.{IsPartitionedBy-ltb}

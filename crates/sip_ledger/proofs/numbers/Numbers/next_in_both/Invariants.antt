@@ -1,4 +1,4 @@
-use Rattle.std.proofs.Common.{◌+◌, ◌-◌, ◌≤◌, length}
+use Rattle.std.proofs.Common.{◌+◌, ◌-◌, length}
 use Rattle.sip_ledger.proofs.bits.BothLemmas.{AreLeft}
 use Rattle.sip_ledger.proofs.numbers.Numbers.next_in_both.Given as goal
 

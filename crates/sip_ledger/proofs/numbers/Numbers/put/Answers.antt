@@ -1,9 +1,9 @@
 -- `place`: where the word of the block of the number stands, or would stand.
-use Rattle.std.proofs.Common.{ℕ, ◌/◌, ◌<◌, ◌≡◌, ◌≢◌, ◌==◌, cond, true, length, get_or, refl, sym, ap, ◌∙◌, subst, arith}
+use Rattle.std.proofs.Common.{◌/◌, ◌<◌, ◌≡◌, ◌≢◌, ◌==◌, cond, true, length, get_or, refl, sym, ap, ◌∙◌, subst, arith}
 use Rattle.std.proofs.lemmas.List.{get_or_read}
 use Rattle.sip_ledger.specs.Numbers.{numbers_of}
 use Rattle.sip_ledger.specs.declared.numbers.Word.{Word}
-use Rattle.sip_ledger.specs.inner.Numbers.{AreWords, IsPlaceFor}
+use Rattle.sip_ledger.specs.inner.Numbers.{AreWords}
 use Rattle.sip_ledger.proofs.bits.PlaceLemmas.{put-there, put-new, words-more}
 use Rattle.sip_ledger.proofs.numbers.Numbers.put.Goals as goal
 use Rattle.sip_ledger.proofs.numbers.Numbers.put.Goals.{else-at-len-via-then-at-len+else-index-block, else-at-len-via-else-at-len}
@@ -23,7 +23,7 @@ returns-then-index-block-clause-ok c n =
 -- no word is of the block of the number
 no-word : (c : goal.In_ok-insert) → c.place_for-at.result < length c.self.inside.words.items → (d : Word) → (get_or c.self.inside.words.items c.place_for-at.result d).block ≢ c.args.number / 64
 no-word c within d is = elim c.else-at-len.branch [
-  else-at-len-via-then-at-len+else-index-block w ↦
+  | else-at-len-via-then-at-len+else-index-block w ↦
       w.if-index-block.false (ap (λ (w : Word). w.block) (get_or_read c.self.inside.words.items c.place_for-at.result w.index.result.now within w.index.ensures d) ∙ is)
   | else-at-len-via-else-at-len w ↦ absurd (omega arith)
 ]

@@ -1,5 +1,5 @@
 -- `place`: where the word of the block of the number stands, or would stand.
-use Rattle.std.proofs.Common.{ℕ, ◌-◌, ◌*◌, ◌/◌, ◌%◌, ◌^◌, ◌<◌, ◌≡◌, ◌≢◌, ◌==◌, cond, false, length, get_or, set, bit_and, refl, sym, ap, ◌∙◌, subst, arith}
+use Rattle.std.proofs.Common.{ℕ, ◌-◌, ◌/◌, ◌<◌, ◌≡◌, ◌≢◌, ◌==◌, cond, false, length, get_or, set, bit_and, sym, ap, ◌∙◌, subst, arith}
 use Rattle.std.proofs.lemmas.List.{get_or_read}
 use Rattle.sip_ledger.specs.Numbers.{numbers_of}
 use Rattle.sip_ledger.specs.declared.numbers.Word.{Word}
@@ -15,7 +15,7 @@ returns-then-at-len c =
     let at = c.place_for-at.result in
     let place = rw c.deref.ensures.value at c.place_for-at.ensures in
     let no_word : at < length words → (d : Word) → (get_or words at d).block ≢ c.args.number / 64 = λ within d is. elim c.then-at-len.branch [
-      then-at-len-via-then-at-len w ↦ absurd (omega arith)
+      | then-at-len-via-then-at-len w ↦ absurd (omega arith)
       | then-at-len-via-else-at-len+then-index-block w ↦ w.if-index-block.true (ap (λ (w : Word). w.block) (get_or_read words at w.index.result.now within w.index.ensures d) ∙ is)
     ] in
     subst (λ ws. (n : ℕ) → numbers_of ws n ≡ cond (n == c.args.number) false (numbers_of ws n)) c.self.view_is (take-none words c.args.number at c.self.invariant place no_word)

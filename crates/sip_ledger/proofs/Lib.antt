@@ -1,4 +1,5 @@
 pub mod account
+pub mod bits
 pub mod debts
 pub mod gains
 pub mod lists

@@ -2,7 +2,7 @@
 use Rattle.std.proofs.Common.{◌≡◌, ◌≢◌, ℕ, ◌-◌, ◌/◌, ◌%◌, ◌<◌, true, false, cond, ◌==◌, ◌||◌, List, ◌∷◌, ◌++◌, bit_and, bit_or, refl, sym, ap, ◌∙◌, inl, inr, arith}
 use Rattle.std.specs.List.{All}
 use Rattle.std.proofs.Math.Bool.{or-false}
-use Rattle.std.proofs.lemmas.Bool.{cases_eq, eq-eqb, ne_eqb}
+use Rattle.std.proofs.lemmas.Bool.{and_right, cases_eq, eq-eqb, ne_eqb}
 use Rattle.std.proofs.lemmas.List.Elements.{All-weaker}
 use Rattle.std.proofs.lemmas.List.Folds.{list_any-append, list_any_none}
 use Rattle.sip_ledger.specs.Numbers.{has_bit, numbers_of}
@@ -18,6 +18,10 @@ has-other n word other = rw (ne_eqb word.block (n / 64) other) refl
 -- a word of the block of the number has it where its bit is set
 pub has-same : (n : ℕ) (word : Word) → word.block ≡ n / 64 → has_bit n word ≡ test word.bits (n % 64)
 has-same n word same = rw (eq-eqb word.block (n / 64) same) refl
+
+-- a word without bits does not have the number
+pub has-none : (n : ℕ) (word : Word) → word.bits ≡ 0 → has_bit n word ≡ false
+has-none n word none = and_right (word.block == n / 64) (test word.bits (n % 64)) (none-set word.bits (n % 64) none)
 
 -- words of other blocks do not have the number
 pub none-has : (n : ℕ) (words : List Word) → All (λ word. word.block ≢ n / 64) words → numbers_of words n ≡ false

@@ -38,7 +38,7 @@ before-place words block at place k d below =
     let short : k < at = omega (arith, below, length-take-le at words place.within) in
     subst (λ word. word.block < block) (sym (get_or-take at words k d short)) (place.before k d (omega arith) short)
 
--- where the word at the place is of the block, those after it are of greater ones
+-- the words after a word are of greater blocks
 pub after-word : (words : List Word) (at : ℕ) (word : Word) → AreWords words → at < length words → word ≡ get_or words at word → All (λ w. word.block < w.block) (drop (suc at) words)
 after-word words at word in_order within is k d below =
     let later : suc at + k < length words = omega (arith, below, length-drop (suc at) words) in
@@ -71,14 +71,17 @@ split-word words at word within is =
 
 -- What follows is of a number and the place of its block.
 module _ (words : List Word) (number at : ℕ) (in_order : AreWords words) (place : IsPlaceFor words (number / 64) at) where
+  -- the words before the place are of lesser blocks
   before : All (λ word. word.block < number / 64) (take at words)
   before = before-place words (number / 64) at place
 
   -- What follows is where a word is of the block.
   module _ (word : Word) (within : at < length words) (is : word ≡ get_or words at word) (block : word.block ≡ number / 64) where
+    -- the words after it are of greater blocks
     after : All (λ w. number / 64 < w.block) (drop (suc at) words)
     after = subst (λ b. All (λ w. b < w.block) (drop (suc at) words)) block (after-word words at word in_order within is)
 
+    -- the words are those before it, it, and those after it
     split : words ≡ take at words ++ word ∷ drop (suc at) words
     split = split-word words at word within is
 
@@ -90,8 +93,7 @@ module _ (words : List Word) (number at : ℕ) (in_order : AreWords words) (plac
         ∙ ap (λ ws. cond (n == number) true (numbers_of ws n)) (sym split)
 
     -- where the bit of the number is cleared in the word, the number is there no more
-    pub take-there : (n : ℕ) →
-        numbers_of (set words at (without_number number word)) n ≡ cond (n == number) false (numbers_of words n)
+    pub take-there : (n : ℕ) → numbers_of (set words at (without_number number word)) n ≡ cond (n == number) false (numbers_of words n)
     take-there n =
         ap (λ ws. numbers_of ws n) (set_split words at (without_number number word) within)
         ∙ cleared number (take at words) (drop (suc at) words) before after word block n
@@ -104,6 +106,7 @@ module _ (words : List Word) (number at : ℕ) (in_order : AreWords words) (plac
 
   -- What follows is where no word is of the block.
   module _ (other : at < length words → (d : Word) → (get_or words at d).block ≢ number / 64) where
+    -- the words from the place on are of greater blocks
     greater : All (λ word. number / 64 < word.block) (drop at words)
     greater = after-gap words (number / 64) at in_order place other
 

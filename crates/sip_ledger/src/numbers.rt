@@ -125,6 +125,10 @@ fn first_from(word: Word, from: u64) -> Option<u64>
     ensures found { IfSome result (IsFirstOf word from) }
     ensures none { IfNone result ((n : ℕ) → from ≤ n → has_bit n word ≡ false) }
 {
+    // Mostly no bit is set.
+    if word.bits == 0 {
+        return None;
+    }
     let block = from / 64;
     if word.block < block {
         return None;

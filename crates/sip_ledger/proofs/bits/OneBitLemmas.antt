@@ -11,22 +11,30 @@ use Rattle.sip_masks.proofs.WordLemmas.{test-shr}
 abbrev pub bit_of : ℕ → ℕ
 bit_of number = 1 * 2 ^ (number % 64) % 18446744073709551616
 
+-- the bits with that of the number
+abbrev pub with_bit : ℕ → ℕ → ℕ
+with_bit bits number = bit_or bits (bit_of number)
+
+-- the bits without that of the number
+abbrev pub without_bit : ℕ → ℕ → ℕ
+without_bit bits number = bit_and bits (18446744073709551615 - bit_of number)
+
 -- in a word to which the bit of a number is added, the bits of the other numbers of its block are as they were
-pub test-added : (bits number n : ℕ) → n / 64 ≡ number / 64 → test (bit_or bits (bit_of number)) (n % 64) ≡ cond (n == number) true (test bits (n % 64))
+pub test-added : (bits number n : ℕ) → n / 64 ≡ number / 64 → test (with_bit bits number) (n % 64) ≡ cond (n == number) true (test bits (n % 64))
 unfolding test
 test-added bits number n same = elim (cases_eq n number) [
   | inl is ↦
-      rw (eq-eqb n number is) (subst (λ k. (bit_at (bit_or bits (bit_of number)) (k % 64) == 1) ≡ true) (sym is) (ap (λ b. b == 1) (bit_at_set_same w64 bits (number % 64) (omega arith))))
+      rw (eq-eqb n number is) (subst (λ k. (bit_at (with_bit bits number) (k % 64) == 1) ≡ true) (sym is) (ap (λ b. b == 1) (bit_at_set_same w64 bits (number % 64) (omega arith))))
   | inr other ↦
       rw (ne_eqb n number other) (ap (λ b. b == 1) (bit_at_set_other w64 bits (number % 64) (omega arith) (n % 64) (λ place. other (omega (arith, place, same)))))
 ]
 
 -- in a word of which the bit of a number is cleared, the bits of the other numbers of its block are as they were
-pub test-cleared : (bits number n : ℕ) → n / 64 ≡ number / 64 → test (bit_and bits (18446744073709551615 - bit_of number)) (n % 64) ≡ cond (n == number) false (test bits (n % 64))
+pub test-cleared : (bits number n : ℕ) → n / 64 ≡ number / 64 → test (without_bit bits number) (n % 64) ≡ cond (n == number) false (test bits (n % 64))
 unfolding test
 test-cleared bits number n same = elim (cases_eq n number) [
   | inl is ↦
-      rw (eq-eqb n number is) (subst (λ k. (bit_at (bit_and bits (18446744073709551615 - bit_of number)) (k % 64) == 1) ≡ false) (sym is) (ap (λ b. b == 1) (bit_at_clear_same w64 bits (number % 64) (omega arith))))
+      rw (eq-eqb n number is) (subst (λ k. (bit_at (without_bit bits number) (k % 64) == 1) ≡ false) (sym is) (ap (λ b. b == 1) (bit_at_clear_same w64 bits (number % 64) (omega arith))))
   | inr other ↦
       rw (ne_eqb n number other) (ap (λ b. b == 1) (bit_at_clear_other w64 bits (number % 64) (omega arith) (n % 64) (omega arith) (λ place. other (omega (arith, place, same)))))
 ]

@@ -1,5 +1,5 @@
 -- The place of the word of a block among words in order: what stands before and after it, and what the words tell after a change there.
-use Rattle.std.proofs.Common.{◌≡◌, ◌≢◌, ℕ, suc, ◌+◌, ◌-◌, ◌/◌, ◌<◌, ◌≤◌, true, false, cond, ◌==◌, List, ◌∷◌, ◌++◌, length, take, drop, get_or, set, bit_and, bit_or, add-one, sym, ap, ◌∙◌, subst, inl, inr, arith}
+use Rattle.std.proofs.Common.{◌≡◌, ◌≢◌, ℕ, suc, ◌+◌, ◌-◌, ◌/◌, ◌<◌, ◌≤◌, true, false, cond, ◌==◌, List, ◌∷◌, ◌++◌, length, take, drop, get_or, set, add-one, sym, ap, ◌∙◌, subst, inl, inr, arith}
 use Rattle.std.specs.List.{All, insert, remove}
 use Rattle.std.specs.List.Sorted.{IsNonDecreasingBy}
 use Rattle.std.proofs.lemmas.Bool.{cases_lt}
@@ -8,8 +8,8 @@ use Rattle.std.proofs.lemmas.List.{drop_more, get_or-drop, get_or-take, get_or_r
 use Rattle.sip_ledger.specs.Numbers.{numbers_of}
 use Rattle.sip_ledger.specs.declared.numbers.Word.{Word}
 use Rattle.sip_ledger.specs.inner.Numbers.{AreWords, IsPlaceFor}
-use Rattle.sip_ledger.proofs.bits.OneBitLemmas.{bit_of}
-use Rattle.sip_ledger.proofs.bits.BlockLemmas.{added, begun, cleared, ended, missing}
+use Rattle.sip_ledger.proofs.bits.OneBitLemmas.{without_bit}
+use Rattle.sip_ledger.proofs.bits.BlockLemmas.{word_of, with_number, without_number, added, begun, cleared, ended, missing}
 
 -- the blocks of words in order do not fall
 pub blocks-rise : (words : List Word) → AreWords words → IsNonDecreasingBy (λ word. word.block) words
@@ -38,7 +38,7 @@ before-place words block at place k d below =
     let short : k < at = omega (arith, below, length-take-le at words place.within) in
     subst (λ word. word.block < block) (sym (get_or-take at words k d short)) (place.before k d (omega arith) short)
 
--- where the word at the place is of the block, those after it are of greater ones
+-- the words after a word are of greater blocks
 pub after-word : (words : List Word) (at : ℕ) (word : Word) → AreWords words → at < length words → word ≡ get_or words at word → All (λ w. word.block < w.block) (drop (suc at) words)
 after-word words at word in_order within is k d below =
     let later : suc at + k < length words = omega (arith, below, length-drop (suc at) words) in
@@ -71,44 +71,47 @@ split-word words at word within is =
 
 -- What follows is of a number and the place of its block.
 module _ (words : List Word) (number at : ℕ) (in_order : AreWords words) (place : IsPlaceFor words (number / 64) at) where
+  -- the words before the place are of lesser blocks
   before : All (λ word. word.block < number / 64) (take at words)
   before = before-place words (number / 64) at place
 
   -- What follows is where a word is of the block.
   module _ (word : Word) (within : at < length words) (is : word ≡ get_or words at word) (block : word.block ≡ number / 64) where
+    -- the words after it are of greater blocks
     after : All (λ w. number / 64 < w.block) (drop (suc at) words)
     after = subst (λ b. All (λ w. b < w.block) (drop (suc at) words)) block (after-word words at word in_order within is)
 
+    -- the words are those before it, it, and those after it
     split : words ≡ take at words ++ word ∷ drop (suc at) words
     split = split-word words at word within is
 
     -- where the bit of the number is added to the word, the number is there besides
-    pub put-there : (n : ℕ) → numbers_of (set words at record { block = word.block; bits = bit_or word.bits (bit_of number) }) n ≡ cond (n == number) true (numbers_of words n)
+    pub put-there : (n : ℕ) → numbers_of (set words at (with_number number word)) n ≡ cond (n == number) true (numbers_of words n)
     put-there n =
-        ap (λ ws. numbers_of ws n) (set_split words at record { block = word.block; bits = bit_or word.bits (bit_of number) } within)
+        ap (λ ws. numbers_of ws n) (set_split words at (with_number number word) within)
         ∙ added number (take at words) (drop (suc at) words) before after word block n
         ∙ ap (λ ws. cond (n == number) true (numbers_of ws n)) (sym split)
 
     -- where the bit of the number is cleared in the word, the number is there no more
-    pub take-there : (n : ℕ) →
-        numbers_of (set words at record { block = word.block; bits = bit_and word.bits (18446744073709551615 - bit_of number) }) n ≡ cond (n == number) false (numbers_of words n)
+    pub take-there : (n : ℕ) → numbers_of (set words at (without_number number word)) n ≡ cond (n == number) false (numbers_of words n)
     take-there n =
-        ap (λ ws. numbers_of ws n) (set_split words at record { block = word.block; bits = bit_and word.bits (18446744073709551615 - bit_of number) } within)
+        ap (λ ws. numbers_of ws n) (set_split words at (without_number number word) within)
         ∙ cleared number (take at words) (drop (suc at) words) before after word block n
         ∙ ap (λ ws. cond (n == number) false (numbers_of ws n)) (sym split)
 
     -- where the word has no other bit and is taken away, the number is there no more
-    pub take-last : bit_and word.bits (18446744073709551615 - bit_of number) ≡ 0 → (n : ℕ) → numbers_of (remove words at) n ≡ cond (n == number) false (numbers_of words n)
+    pub take-last : without_bit word.bits number ≡ 0 → (n : ℕ) → numbers_of (remove words at) n ≡ cond (n == number) false (numbers_of words n)
     take-last none n =
         ended number (take at words) (drop (suc at) words) before after word block none n ∙ ap (λ ws. cond (n == number) false (numbers_of ws n)) (sym split)
 
   -- What follows is where no word is of the block.
   module _ (other : at < length words → (d : Word) → (get_or words at d).block ≢ number / 64) where
+    -- the words from the place on are of greater blocks
     greater : All (λ word. number / 64 < word.block) (drop at words)
     greater = after-gap words (number / 64) at in_order place other
 
     -- where a word with the bit of the number alone is put in, the number is there besides
-    pub put-new : (n : ℕ) → numbers_of (insert words at record { block = number / 64; bits = bit_of number }) n ≡ cond (n == number) true (numbers_of words n)
+    pub put-new : (n : ℕ) → numbers_of (insert words at (word_of number)) n ≡ cond (n == number) true (numbers_of words n)
     put-new n = begun number (take at words) (drop at words) before greater n ∙ ap (λ ws. cond (n == number) true (numbers_of ws n)) (take-append-drop at words)
 
     -- the number is not there

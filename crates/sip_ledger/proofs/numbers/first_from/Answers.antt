@@ -1,9 +1,14 @@
 -- `lowest`: the bits from `low` on are those of the numbers from `from` on.
 use Rattle.std.proofs.Common.{◌+◌, ◌*◌, sym, subst}
 use Rattle.sip_ledger.specs.inner.Numbers.{IsFirstOf}
+use Rattle.sip_ledger.proofs.bits.BlockLemmas.{has-none}
 use Rattle.sip_ledger.proofs.bits.FirstLemmas.{IsLow, low-inside, low-above, none-from, first-of}
 use Rattle.sip_ledger.proofs.numbers.first_from.Goals as goal
 use Rattle.sip_ledger.proofs.numbers.first_from.Goals.{then-word-block-2, else-word-block-2}
+
+-- no bit is set
+pub returns-then-word-eq0-clause-none : goal.returns-then-word-eq0-clause-none
+returns-then-word-eq0-clause-none c n after = has-none n c.args.word c.if-word-eq0.true
 
 -- no bit is left, so the word has no number from there on
 pub returns-then-bits-eq0-clause-none : goal.returns-then-bits-eq0-clause-none

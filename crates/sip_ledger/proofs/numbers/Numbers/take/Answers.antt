@@ -1,9 +1,9 @@
 -- `place`: where the word of the block of the number stands, or would stand.
-use Rattle.std.proofs.Common.{ℕ, ◌-◌, ◌/◌, ◌<◌, ◌≡◌, ◌≢◌, ◌==◌, cond, false, length, get_or, set, bit_and, sym, ap, ◌∙◌, subst, arith}
+use Rattle.std.proofs.Common.{ℕ, ◌/◌, ◌<◌, ◌≡◌, ◌≢◌, ◌==◌, cond, false, length, get_or, set, sym, ap, ◌∙◌, subst, arith}
 use Rattle.std.proofs.lemmas.List.{get_or_read}
 use Rattle.sip_ledger.specs.Numbers.{numbers_of}
 use Rattle.sip_ledger.specs.declared.numbers.Word.{Word}
-use Rattle.sip_ledger.proofs.bits.OneBitLemmas.{bit_of}
+use Rattle.sip_ledger.proofs.bits.OneBitLemmas.{without_bit}
 use Rattle.sip_ledger.proofs.bits.PlaceLemmas.{take-there, take-last, take-none}
 use Rattle.sip_ledger.proofs.numbers.Numbers.take.Goals as goal
 use Rattle.sip_ledger.proofs.numbers.Numbers.take.Goals.{then-at-len-via-then-at-len, then-at-len-via-else-at-len+then-index-block}
@@ -45,6 +45,6 @@ returns-else-bits-eq0 c n =
     let same : word ≡ c.index.result.now = get_or_read words at word within c.index-2.ensures c.index.result.now ∙ sym c.index.ensures in
     let block : word.block ≡ c.args.number / 64 = ap (λ (w : Word). w.block) same ∙ c.if-index-block.false in
     let written : c.index_mut.result.now ≡ word = get_or_read words at c.index_mut.result.now within c.index_mut.ensures.value word ∙ sym c.index-2.ensures in
-    ap (λ (w : Word). numbers_of (set words at record { block = w.block; bits = bit_and word.bits (18446744073709551615 - bit_of c.args.number) }) n) written
+    ap (λ (w : Word). numbers_of (set words at record { block = w.block; bits = without_bit word.bits c.args.number }) n) written
     ∙ take-there words c.args.number at c.self.invariant place word within c.index-2.ensures block n
     ∙ ap (λ ws. cond (n == c.args.number) false (numbers_of ws n)) c.self.view_is

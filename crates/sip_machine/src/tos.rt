@@ -91,12 +91,8 @@ impl Tos {
         ensures ok { OnOk result (self.new ≡ self.old ++ (record { number = number; text = text }) ∷ []) }
         ensures err { OnErr result (self.new ≡ self.old) }
     {
-        note(
-            *self.list.allocator(),
-            &mut self.hashes,
-            text.hash(),
-            number,
-        )?;
+        let alloc = *self.list.allocator();
+        note(alloc, &mut self.hashes, text.hash(), number)?;
         self.list.push(To { number, text })?;
         Ok(())
     }

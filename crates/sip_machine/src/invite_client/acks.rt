@@ -16,8 +16,8 @@ use sip_key::{is_ack_for, solid_of};
 use sip_ledger::{Accounts, Debt, Numbers};
 use std::alloc::{AllocError, Global};
 
-/// Among how many of the messages under a hash that are owed in some row a debt is looked for: among so many first, and among the next of these where
-/// they do not tell. In between four times as many of the oldest debts are looked at, which take as long.
+/// In how many steps a debt is looked for among the messages under a hash: in so many first, and in the next of these where they do not tell. A step
+/// looks at one of them that some row owes. In between four times as many of the oldest debts are looked at, which take as long.
 const STEPS: [usize; 6] = [64, 512, 4096, 32_768, 262_144, usize::MAX];
 
 /// The message of the first debt of the row that is a response to the INVITE to which the event's ACK belongs (RFC 3261,
@@ -147,7 +147,7 @@ fn first_of(
     Ok(None)
 }
 
-/// What `first_with_to` finds, where the hash of the To tells it by a look at `most` messages: where all messages that are owed stand under the hashes of
+/// What `first_with_to` finds, where the hash of the To tells it in `most` steps: where all messages that are owed stand under the hashes of
 /// their Tos, and the first of them that stands under this hash has this To.
 fn first_under(
     alloc: Global,

@@ -1,4 +1,3 @@
-use Rattle.std.proofs.Common.{sym, rules}
 use Rattle.sip_machine.proofs.acks.HashesLemmas.{found-some, found-none}
 use Rattle.sip_machine.proofs.hashes.Hashes.get.Goals as goal
 

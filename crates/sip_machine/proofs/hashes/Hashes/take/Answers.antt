@@ -1,4 +1,4 @@
-use Rattle.std.proofs.Common.{refl, sym, rules, false, Some, None}
+use Rattle.std.proofs.Common.{refl, rules, false, Some, None}
 use Rattle.sip_machine.proofs.acks.HashesLemmas.{none-taken, set-changed}
 use Rattle.sip_machine.proofs.hashes.Hashes.take.Goals as goal
 use Rattle.sip_machine.proofs.hashes.Hashes.take.Goals.{in-Some, in_default}

@@ -17,8 +17,8 @@ use sip_ledger::{Accounts, Debt, Numbers};
 use std::alloc::{AllocError, Global};
 
 /// In how many steps a debt is looked for among the messages under a hash: in so many first, and in the next of these where they do not tell. A step
-/// looks at one of them that some row owes. In between four times as many of the oldest debts are looked at, which take as long.
-const STEPS: [usize; 6] = [64, 512, 4096, 32_768, 262_144, usize::MAX];
+/// looks at one of them that some row owes. In between eight times as many of the oldest debts are looked at, which take as long.
+const STEPS: [usize; 7] = [16, 128, 1024, 8192, 65_536, 524_288, usize::MAX];
 
 /// The message of the first debt of the row that is a response to the INVITE to which the event's ACK belongs (RFC 3261,
 /// section 17.1.1.3), and whose deadline has not passed; None if there is none.
@@ -91,7 +91,7 @@ fn first_with_to(
         if let Some(found) = first_under(alloc, book, to, moment, accounts, row, most)? {
             return Ok(found);
         }
-        let debts = most.saturating_mul(4);
+        let debts = most.saturating_mul(8);
         if let Some(found) = first_of_oldest(alloc, book, to, moment, accounts, row, debts)? {
             return Ok(found);
         }

@@ -4,7 +4,8 @@ ghost use Rattle.std.specs.Prelude.{◌<◌, length};
 
 use crate::chance::{Chance, evens};
 use crate::wants::{Done, holds, holds_of};
-use sip_ledger::{Accounts, Debt, Numbers};
+use sip_ledger::{Accounts, Debt};
+use sip_numbers::Numbers;
 use std::alloc::Global;
 use std::process::Abort;
 use std::test::Fail;

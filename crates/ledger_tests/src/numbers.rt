@@ -1,7 +1,7 @@
 //! Sets of numbers, beside plain lists of them.
 use crate::chance::Chance;
 use crate::wants::{Done, holds, holds_of};
-use sip_ledger::Numbers;
+use sip_numbers::Numbers;
 use std::alloc::Global;
 use std::process::Abort;
 use std::test::Fail;

@@ -1,5 +1,4 @@
 pub mod account
-pub mod bits
 pub mod debts
 pub mod gains
 pub mod lists

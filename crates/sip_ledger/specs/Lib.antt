@@ -3,6 +3,5 @@ pub mod Debts
 pub mod Entries
 pub mod Indexes
 pub mod Runs
-pub mod Numbers
 pub mod Lists
 pub mod inner

@@ -3,8 +3,8 @@ ghost use Rattle.std.specs.Prelude.{◌≡◌, ◌↔◌, ◌<◌, ◌≤◌, �
 ghost use Rattle.std.specs.List.{list_any};
 ghost use Rattle.sip_ledger.specs.Accounts.{owed_in, AppendsOwed};
 ghost use Rattle.sip_ledger.specs.Debts.{IsFirstPaid, PaysSome, counts_at, softened_debt, is_payable, debt_deadlines, earliest, paid_by};
-ghost use Rattle.sip_ledger.specs.Numbers.{HasMany, numbers_of};
-ghost use Rattle.sip_ledger.specs.Lists.{Rise};
+ghost use Rattle.sip_numbers.specs.Numbers.{numbers_of};
+ghost use Rattle.sip_ledger.specs.Lists.{HasMany, Rise};
 ghost use Rattle.sip_ledger.specs.Runs.{AreRuns};
 
 mod account;
@@ -29,8 +29,8 @@ use crate::accounts::seek::Seek;
 use crate::accounts::strikes::Strike;
 use crate::debt::Debt;
 use crate::front;
-use crate::numbers::Numbers;
 use crate::run::{Run, runs_of};
+use sip_numbers::Numbers;
 use std::alloc::{AllocError, Global};
 use std::marker::Model;
 

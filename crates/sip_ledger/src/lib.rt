@@ -5,10 +5,8 @@ mod accounts;
 mod debt;
 mod front;
 mod index;
-mod numbers;
 mod run;
 
 pub use crate::accounts::Accounts;
 pub use crate::debt::Debt;
-pub use crate::numbers::Numbers;
 pub use crate::run::Run;

@@ -1,9 +1,9 @@
 //! Numbers that stand under hashes.
 ghost use Rattle.std.specs.Prelude.{◌≡◌, ◌==◌, ◌&&◌, ℕ, cond, true, false, IfSome, IfNone, OnOk, OnErr};
-ghost use Rattle.sip_ledger.specs.Numbers.{numbers_of};
+ghost use Rattle.sip_numbers.specs.Numbers.{numbers_of};
 ghost use Rattle.sip_machine.specs.inner.Hashes.{stands};
 
-use sip_ledger::Numbers;
+use sip_numbers::Numbers;
 use std::alloc::{AllocError, Global};
 use std::collections::BTreeMap;
 use std::marker::Model;

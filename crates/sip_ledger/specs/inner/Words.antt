@@ -14,8 +14,7 @@ pub use Rattle.sip_ledger.specs.Debts.{IsFirstPaid, PaysSome, counts_at, debt_de
 pub use Rattle.sip_ledger.specs.Entries.{IsGap, debt_of, debts_from}
 pub use Rattle.sip_ledger.specs.Indexes.{IsFirstFrom, IsFrom, IsNextUnder, NoneFrom, pair_cmp}
 unfoldable pub use Rattle.sip_ledger.specs.Indexes.{holds}
-pub use Rattle.sip_ledger.specs.Lists.{Rise, from_to}
-pub use Rattle.sip_ledger.specs.Numbers.{HasMany, IsFirstInBoth, NoneInBoth}
+pub use Rattle.sip_ledger.specs.Lists.{HasMany, Rise, from_to}
 pub use Rattle.sip_ledger.specs.Runs.{AreRuns, debts_in}
 pub use Rattle.sip_ledger.specs.declared.accounts.account.Account.{Account}
 pub use Rattle.sip_ledger.specs.declared.accounts.gains.Flags.{Flags}
@@ -26,5 +25,5 @@ pub use Rattle.sip_ledger.specs.declared.debt.Entry.{Entry}
 pub use Rattle.sip_ledger.specs.declared.run.Run.{Run}
 pub use Rattle.sip_ledger.specs.inner.Accounts.{AreAccounts, AreAppended, AreFlags, AreGains, AreKept, AreMoved, AreRising, AreSameGains, AreStruckToo, EndsWith, IsAccount, IsAfter, IsClearedTo, IsDropped, IsExpiredTo, IsFirstPaying, IsFirstPayable, IsGain, IsGainAt, IsUndropped, IsLetGo, IsMoved, IsNext, IsNextGain, IsNoneBetween, IsNoted, IsPlaceOf, IsSeek, IsStruck, IsWithout, IsWritten, KeepsAccounts, Lengthens, PaysSomeAt, Reaches, SharesNext, StartFrom, StrikeToo, StrikesNoneFrom, blank, entry_at, flags_at, is_out, least_after, no_flags, pays_at, softened_account, sooner, strikes_of}
 pub use Rattle.sip_ledger.specs.inner.Places.{ArePlaces, IsNextLeft, NoneLeft}
-unfoldable pub use Rattle.sip_ledger.specs.Numbers.{numbers_of}
+unfoldable pub use Rattle.sip_numbers.specs.Numbers.{numbers_of}
 unfoldable pub use Rattle.sip_ledger.specs.inner.Accounts.{account_debts, accounts_debts, entries_of, is_left, is_struck, must_at, owes_at}

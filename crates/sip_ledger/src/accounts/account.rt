@@ -6,7 +6,7 @@ use crate::accounts::gains::Gains;
 use crate::accounts::seek::Seek;
 use crate::accounts::strikes::{Strike, Strikes, are_same, first_alone, put, struck_to};
 use crate::debt::Debt;
-use crate::numbers::Numbers;
+use sip_numbers::Numbers;
 use std::alloc::{AllocError, Global};
 
 /// What a row owes: what was gained at the places from `start` up to `end`, but for what its strikes say. What was gained below

@@ -1,11 +1,11 @@
 //! The places of what is left of each message.
 ghost use Rattle.std.specs.Prelude.{◌≡◌, ◌==◌, ◌&&◌, ◌<◌, ◌≤◌, ℕ, cond, true, false, [], IfSome, IfNone, OnOk, OnErr};
 ghost use Rattle.sip_ledger.specs.Indexes.{holds, IsFirstFrom, IsNextUnder, NoneFrom};
-ghost use Rattle.sip_ledger.specs.Numbers.{numbers_of};
+ghost use Rattle.sip_numbers.specs.Numbers.{numbers_of};
 ghost use Rattle.sip_ledger.specs.inner.Places.{IsNextLeft, NoneLeft};
 
 use crate::index::Index;
-use crate::numbers::Numbers;
+use sip_numbers::Numbers;
 use std::alloc::{AllocError, Global};
 use std::marker::Model;
 

@@ -5,8 +5,8 @@ use Rattle.std.specs.Map.{lookup}
 use Rattle.std.specs.Ordering.{nat_cmp}
 use Rattle.std.proofs.Common.{sym, ap, arith, cond}
 use Rattle.std.proofs.lemmas.Bool.Decides.{nat_tests}
-use Rattle.sip_ledger.specs.Numbers.{numbers_of}
-use Rattle.sip_ledger.specs.declared.numbers.Word.{Word}
+use Rattle.sip_numbers.specs.Numbers.{numbers_of}
+use Rattle.sip_numbers.specs.declared.numbers.Word.{Word}
 use Rattle.sip_machine.specs.inner.Hashes.{Sets, is_in, stands}
 
 -- nothing stands in sets without hashes

@@ -10,8 +10,8 @@ use Rattle.std.proofs.lemmas.List.Elements.{All-cons, All-head, All-more, All-ni
 use Rattle.std.proofs.lemmas.Option.{get_or_from_slice_get}
 use Rattle.sip_ledger.specs.declared.debt.Debt.{Debt}
 use Rattle.sip_ledger.specs.Debts.{IsFirstPaid, PaysSome, is_payable, paid_by}
-use Rattle.sip_ledger.specs.Numbers.{numbers_of}
-use Rattle.sip_ledger.specs.declared.numbers.Word.{Word}
+use Rattle.sip_numbers.specs.Numbers.{numbers_of}
+use Rattle.sip_numbers.specs.declared.numbers.Word.{Word}
 use Rattle.sip_ledger.specs.Accounts.{AppendsOwed}
 use Rattle.sip_machine.specs.Texts.{Texts, text_of}
 use Rattle.sip_standard.specs.Debts.{IsWithoutFirst}

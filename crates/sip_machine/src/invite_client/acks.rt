@@ -1,7 +1,7 @@
 //! The response to which an ACK belongs: the INVITE and the ACK are read anew, and tell all but the response, which is told by its To alone.
 ghost use Rattle.std.specs.Prelude.{◌≡◌, ◌<◌, ◌↔◌, IfOk, IfSome, IsTrue, All, length};
 ghost use Rattle.sip_ledger.specs.Debts.{IsFirstPaid, PaysSome};
-ghost use Rattle.sip_ledger.specs.Numbers.{numbers_of};
+ghost use Rattle.sip_numbers.specs.Numbers.{numbers_of};
 ghost use Rattle.sip_machine.specs.Owes.{owed_in, owes_names};
 ghost use Rattle.sip_machine.specs.Texts.{Keeps, text_of};
 ghost use Rattle.sip_machine.specs.inner.Acks.{HasTo, PaysDebt};
@@ -13,7 +13,8 @@ use crate::dues::Dues;
 use crate::event::Event;
 use crate::hashed::Hashed;
 use sip_key::{is_ack_for, solid_of};
-use sip_ledger::{Accounts, Debt, Numbers};
+use sip_ledger::{Accounts, Debt};
+use sip_numbers::Numbers;
 use std::alloc::{AllocError, Global};
 
 /// In how many steps a debt is looked for among the messages under a hash: in so many first, and in the next of these where they do not tell. A step

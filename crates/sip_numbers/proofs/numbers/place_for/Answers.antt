@@ -2,9 +2,9 @@ use Rattle.std.proofs.Common.{◌-◌, length, nat_lt, rules, subst}
 use Rattle.std.proofs.lemmas.Bool.{ltb-true, ltb-false}
 use Rattle.std.proofs.lemmas.Fn.{always_returns_same}
 use Rattle.std.proofs.lemmas.List.Sorted.{IsPartitionedBy-ltb}
-use Rattle.sip_ledger.specs.inner.Numbers.{IsPlaceFor}
-use Rattle.sip_ledger.proofs.bits.PlaceLemmas.{blocks-rise, place-past, place-last}
-use Rattle.sip_ledger.proofs.numbers.place_for.Goals as goal
+use Rattle.sip_numbers.specs.inner.Numbers.{IsPlaceFor}
+use Rattle.sip_numbers.proofs.bits.PlaceLemmas.{blocks-rise, place-past, place-last}
+use Rattle.sip_numbers.proofs.numbers.place_for.Goals as goal
 
 -- all words are of lesser blocks
 pub returns-in-Some : goal.returns-in-Some

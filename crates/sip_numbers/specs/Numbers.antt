@@ -1,7 +1,6 @@
-use Rattle.std.specs.Prelude.{◌≡◌, ◌<◌, ◌≤◌, ◌==◌, ◌&&◌, ◌/◌, ◌%◌, ℕ, Bool, true, List, All, IsTrue, length}
+use Rattle.std.specs.Prelude.{◌≡◌, ◌<◌, ◌≤◌, ◌==◌, ◌&&◌, ◌/◌, ◌%◌, ℕ, Bool, true, List}
 use Rattle.std.specs.List.{list_any}
-use Rattle.sip_ledger.specs.Lists.{Rise}
-use Rattle.sip_ledger.specs.declared.numbers.Word.{Word}
+use Rattle.sip_numbers.specs.declared.numbers.Word.{Word}
 use Rattle.sip_masks.specs.Bits.{test}
 
 -- Sets of numbers, as words each of which has a bit for each of 64 numbers in a row, and as tests that tell which numbers are in them.
@@ -24,10 +23,3 @@ pub record IsFirstInBoth (one other : ℕ → Bool) (from number : ℕ) : Type 0
 -- no number from `from` on passes both tests
 abbrev pub NoneInBoth : (ℕ → Bool) → (ℕ → Bool) → ℕ → Type 0
 NoneInBoth one other from = (n : ℕ) → from ≤ n → one n ≡ true → ¬ (other n ≡ true)
-
--- at least so many numbers pass the test
-pub record HasMany (test : ℕ → Bool) (count : ℕ) : Type 0 where
-  pub numbers : List ℕ
-  pub rise : Rise numbers
-  pub many : length numbers ≡ count
-  pub pass : All (λ n. IsTrue (test n)) numbers

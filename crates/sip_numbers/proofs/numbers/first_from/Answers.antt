@@ -1,10 +1,10 @@
 -- `lowest`: the bits from `low` on are those of the numbers from `from` on.
 use Rattle.std.proofs.Common.{◌+◌, ◌*◌, sym, subst}
-use Rattle.sip_ledger.specs.inner.Numbers.{IsFirstOf}
-use Rattle.sip_ledger.proofs.bits.BlockLemmas.{has-none}
-use Rattle.sip_ledger.proofs.bits.FirstLemmas.{IsLow, low-inside, low-above, none-from, first-of}
-use Rattle.sip_ledger.proofs.numbers.first_from.Goals as goal
-use Rattle.sip_ledger.proofs.numbers.first_from.Goals.{then-word-block-2, else-word-block-2}
+use Rattle.sip_numbers.specs.inner.Numbers.{IsFirstOf}
+use Rattle.sip_numbers.proofs.bits.BlockLemmas.{has-none}
+use Rattle.sip_numbers.proofs.bits.FirstLemmas.{IsLow, low-inside, low-above, none-from, first-of}
+use Rattle.sip_numbers.proofs.numbers.first_from.Goals as goal
+use Rattle.sip_numbers.proofs.numbers.first_from.Goals.{then-word-block-2, else-word-block-2}
 
 -- no bit is set
 pub returns-then-word-eq0-clause-none : goal.returns-then-word-eq0-clause-none

@@ -1,6 +1,6 @@
 use Rattle.std.proofs.Common.{◌+◌, ◌-◌, length}
-use Rattle.sip_ledger.proofs.bits.BothLemmas.{AreLeft}
-use Rattle.sip_ledger.proofs.numbers.Numbers.next_in_both.Given as goal
+use Rattle.sip_numbers.proofs.bits.BothLemmas.{AreLeft}
+use Rattle.sip_numbers.proofs.numbers.Numbers.next_in_both.Given as goal
 
 -- each number from `from` on that both sets have is one of a word at `at` or after it, and of one at `beside` or after it
 abbrev pub invariant-loop-at : goal.invariant-loop-at

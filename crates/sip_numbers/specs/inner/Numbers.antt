@@ -1,7 +1,7 @@
 use Rattle.std.specs.Prelude.{◌≡◌, ◌<◌, ◌≤◌, ◌^◌, ℕ, true, false, List, All, AllPairs, length}
 use Rattle.std.specs.List.{AllWithin}
-use Rattle.sip_ledger.specs.Numbers.{has_bit}
-use Rattle.sip_ledger.specs.declared.numbers.Word.{Word}
+use Rattle.sip_numbers.specs.Numbers.{has_bit}
+use Rattle.sip_numbers.specs.declared.numbers.Word.{Word}
 
 -- The words of a set of numbers, in order.
 

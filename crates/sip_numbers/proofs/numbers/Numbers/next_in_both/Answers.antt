@@ -1,8 +1,8 @@
 -- `left`: each number from `from` on that both sets have is one of a word at `at` or after it, and of one at `beside` or after it.
 use Rattle.std.proofs.Common.{◌≡◌, inl, inr, subst, arith}
-use Rattle.sip_ledger.specs.Numbers.{IsFirstInBoth, NoneInBoth, numbers_of}
-use Rattle.sip_ledger.proofs.bits.BothLemmas.{left-start, none-left, pass-one, pass-other, pass-both, first-both}
-use Rattle.sip_ledger.proofs.numbers.Numbers.next_in_both.Goals as goal
+use Rattle.sip_numbers.specs.Numbers.{IsFirstInBoth, NoneInBoth, numbers_of}
+use Rattle.sip_numbers.proofs.bits.BothLemmas.{left-start, none-left, pass-one, pass-other, pass-both, first-both}
+use Rattle.sip_numbers.proofs.numbers.Numbers.next_in_both.Goals as goal
 
 -- the places are those of the block of `from`
 pub loop-at-init : goal.loop-at-init

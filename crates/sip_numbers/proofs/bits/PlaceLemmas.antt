@@ -5,11 +5,11 @@ use Rattle.std.specs.List.Sorted.{IsNonDecreasingBy}
 use Rattle.std.proofs.lemmas.Bool.{cases_lt}
 use Rattle.std.proofs.lemmas.Grind.{elements}
 use Rattle.std.proofs.lemmas.List.{drop_more, get_or-drop, get_or-take, get_or_read, length-drop, length-take-le, set_split, take-append-drop}
-use Rattle.sip_ledger.specs.Numbers.{numbers_of}
-use Rattle.sip_ledger.specs.declared.numbers.Word.{Word}
-use Rattle.sip_ledger.specs.inner.Numbers.{AreWords, IsPlaceFor}
-use Rattle.sip_ledger.proofs.bits.OneBitLemmas.{without_bit}
-use Rattle.sip_ledger.proofs.bits.BlockLemmas.{word_of, with_number, without_number, added, begun, cleared, ended, missing}
+use Rattle.sip_numbers.specs.Numbers.{numbers_of}
+use Rattle.sip_numbers.specs.declared.numbers.Word.{Word}
+use Rattle.sip_numbers.specs.inner.Numbers.{AreWords, IsPlaceFor}
+use Rattle.sip_numbers.proofs.bits.OneBitLemmas.{without_bit}
+use Rattle.sip_numbers.proofs.bits.BlockLemmas.{word_of, with_number, without_number, added, begun, cleared, ended, missing}
 
 -- the blocks of words in order do not fall
 pub blocks-rise : (words : List Word) → AreWords words → IsNonDecreasingBy (λ word. word.block) words

@@ -5,11 +5,11 @@ use Rattle.std.proofs.Math.Bool.{or-false}
 use Rattle.std.proofs.lemmas.Bool.{and_right, cases_eq, eq-eqb, ne_eqb}
 use Rattle.std.proofs.lemmas.List.Elements.{All-weaker}
 use Rattle.std.proofs.lemmas.List.Folds.{list_any-append, list_any_none}
-use Rattle.sip_ledger.specs.Numbers.{has_bit, numbers_of}
-use Rattle.sip_ledger.specs.declared.numbers.Word.{Word}
+use Rattle.sip_numbers.specs.Numbers.{has_bit, numbers_of}
+use Rattle.sip_numbers.specs.declared.numbers.Word.{Word}
 use Rattle.sip_masks.specs.Bits.{test}
 use Rattle.sip_masks.proofs.RunLemmas.{none-set}
-use Rattle.sip_ledger.proofs.bits.OneBitLemmas.{bit_of, with_bit, without_bit, test-added, test-cleared}
+use Rattle.sip_numbers.proofs.bits.OneBitLemmas.{bit_of, with_bit, without_bit, test-added, test-cleared}
 
 -- a word of another block does not have the number
 pub has-other : (n : ℕ) (word : Word) → word.block ≢ n / 64 → has_bit n word ≡ false

@@ -1,6 +1,6 @@
 use Rattle.std.proofs.Common.{ap}
-use Rattle.sip_ledger.specs.Numbers.{numbers_of}
-use Rattle.sip_ledger.proofs.numbers.Numbers.new.Goals as goal
+use Rattle.sip_numbers.specs.Numbers.{numbers_of}
+use Rattle.sip_numbers.proofs.numbers.Numbers.new.Goals as goal
 
 -- there are no words
 pub returns : goal.returns

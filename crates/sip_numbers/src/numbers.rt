@@ -1,7 +1,7 @@
 //! Sets of numbers.
 ghost use Rattle.std.specs.Prelude.{◌≡◌, ◌==◌, ◌<◌, ◌≤◌, ◌^◌, ℕ, cond, true, false, IfSome, IfNone, OnOk, OnErr};
-ghost use Rattle.sip_ledger.specs.Numbers.{IsFirstInBoth, NoneInBoth, has_bit, numbers_of};
-ghost use Rattle.sip_ledger.specs.inner.Numbers.{AreWords, IsFirstOf, IsPlaceFor};
+ghost use Rattle.sip_numbers.specs.Numbers.{IsFirstInBoth, NoneInBoth, has_bit, numbers_of};
+ghost use Rattle.sip_numbers.specs.inner.Numbers.{AreWords, IsFirstOf, IsPlaceFor};
 
 use std::alloc::{AllocError, Global};
 use std::marker::Model;
@@ -21,12 +21,12 @@ pub struct Numbers {
 
 impl Model for Numbers {
     ghost use Rattle.std.specs.Prelude.{List};
-    ghost use Rattle.sip_ledger.specs.declared.numbers.Word.{Word};
+    ghost use Rattle.sip_numbers.specs.declared.numbers.Word.{Word};
 
     // What a set means is its words, of which `numbers_of` tells which numbers are there.
     ghost Value = { List Word };
 
-    ghost use Rattle.sip_ledger.specs.inner.Numbers.{AreWords};
+    ghost use Rattle.sip_numbers.specs.inner.Numbers.{AreWords};
 
     ghost view = { λ n. n.words.items };
 

@@ -1,12 +1,12 @@
 -- `place`: where the word of the block of the number stands, or would stand.
 use Rattle.std.proofs.Common.{ℕ, ◌/◌, ◌<◌, ◌≡◌, ◌≢◌, ◌==◌, cond, false, length, get_or, set, sym, ap, ◌∙◌, subst, arith}
 use Rattle.std.proofs.lemmas.List.{get_or_read}
-use Rattle.sip_ledger.specs.Numbers.{numbers_of}
-use Rattle.sip_ledger.specs.declared.numbers.Word.{Word}
-use Rattle.sip_ledger.proofs.bits.OneBitLemmas.{without_bit}
-use Rattle.sip_ledger.proofs.bits.PlaceLemmas.{take-there, take-last, take-none}
-use Rattle.sip_ledger.proofs.numbers.Numbers.take.Goals as goal
-use Rattle.sip_ledger.proofs.numbers.Numbers.take.Goals.{then-at-len-via-then-at-len, then-at-len-via-else-at-len+then-index-block}
+use Rattle.sip_numbers.specs.Numbers.{numbers_of}
+use Rattle.sip_numbers.specs.declared.numbers.Word.{Word}
+use Rattle.sip_numbers.proofs.bits.OneBitLemmas.{without_bit}
+use Rattle.sip_numbers.proofs.bits.PlaceLemmas.{take-there, take-last, take-none}
+use Rattle.sip_numbers.proofs.numbers.Numbers.take.Goals as goal
+use Rattle.sip_numbers.proofs.numbers.Numbers.take.Goals.{then-at-len-via-then-at-len, then-at-len-via-else-at-len+then-index-block}
 
 -- no word is of the block of the number, so the number is not there
 pub returns-then-at-len : goal.returns-then-at-len

@@ -1,12 +1,12 @@
 -- `place`: where the word of the block of the number stands, or would stand.
 use Rattle.std.proofs.Common.{◌/◌, ◌<◌, ◌≡◌, ◌≢◌, ◌==◌, cond, true, length, get_or, refl, sym, ap, ◌∙◌, subst, arith}
 use Rattle.std.proofs.lemmas.List.{get_or_read}
-use Rattle.sip_ledger.specs.Numbers.{numbers_of}
-use Rattle.sip_ledger.specs.declared.numbers.Word.{Word}
-use Rattle.sip_ledger.specs.inner.Numbers.{AreWords}
-use Rattle.sip_ledger.proofs.bits.PlaceLemmas.{put-there, put-new, words-more}
-use Rattle.sip_ledger.proofs.numbers.Numbers.put.Goals as goal
-use Rattle.sip_ledger.proofs.numbers.Numbers.put.Goals.{else-at-len-via-then-at-len+else-index-block, else-at-len-via-else-at-len}
+use Rattle.sip_numbers.specs.Numbers.{numbers_of}
+use Rattle.sip_numbers.specs.declared.numbers.Word.{Word}
+use Rattle.sip_numbers.specs.inner.Numbers.{AreWords}
+use Rattle.sip_numbers.proofs.bits.PlaceLemmas.{put-there, put-new, words-more}
+use Rattle.sip_numbers.proofs.numbers.Numbers.put.Goals as goal
+use Rattle.sip_numbers.proofs.numbers.Numbers.put.Goals.{else-at-len-via-then-at-len+else-index-block, else-at-len-via-else-at-len}
 
 -- the bit of the number is added to the word of its block
 pub returns-then-index-block-clause-ok : goal.returns-then-index-block-clause-ok

@@ -2,13 +2,13 @@
 use Rattle.std.proofs.Common.{◌≡◌, ◌≢◌, ℕ, ◌+◌, ◌*◌, ◌/◌, ◌%◌, ◌<◌, ◌≤◌, false, sym, ap, ◌∙◌, inl, inr, arith, w64}
 use Rattle.std.specs.Int.{trailing_zeros}
 use Rattle.std.proofs.lemmas.Bool.{cases_eq, cases_lt, false≢true}
-use Rattle.sip_ledger.specs.Numbers.{has_bit}
-use Rattle.sip_ledger.specs.declared.numbers.Word.{Word}
-use Rattle.sip_ledger.specs.inner.Numbers.{IsFirstOf}
+use Rattle.sip_numbers.specs.Numbers.{has_bit}
+use Rattle.sip_numbers.specs.declared.numbers.Word.{Word}
+use Rattle.sip_numbers.specs.inner.Numbers.{IsFirstOf}
 use Rattle.sip_masks.specs.Bits.{test}
 use Rattle.sip_masks.proofs.RunLemmas.{lowest-set, none-set}
-use Rattle.sip_ledger.proofs.bits.OneBitLemmas.{from_bit, test-kept, test-left_out}
-use Rattle.sip_ledger.proofs.bits.BlockLemmas.{has-other, has-same}
+use Rattle.sip_numbers.proofs.bits.OneBitLemmas.{from_bit, test-kept, test-left_out}
+use Rattle.sip_numbers.proofs.bits.BlockLemmas.{has-other, has-same}
 
 -- the bits of a word from `low` on are those of its numbers from `from` on
 pub record IsLow (word : Word) (from low : ℕ) : Type 0 where

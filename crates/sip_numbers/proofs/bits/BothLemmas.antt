@@ -5,13 +5,13 @@ use Rattle.std.proofs.lemmas.Bool.{cases_lt, eqb-true, false≢true}
 use Rattle.std.proofs.lemmas.List.{drop_more, drop_all, take-append-drop}
 use Rattle.std.proofs.lemmas.List.Elements.{All-weaker}
 use Rattle.std.proofs.lemmas.List.Folds.{list_any_at}
-use Rattle.sip_ledger.specs.Numbers.{IsFirstInBoth, NoneInBoth, has_bit, numbers_of}
-use Rattle.sip_ledger.specs.declared.numbers.Word.{Word}
-use Rattle.sip_ledger.specs.inner.Numbers.{AreWords, IsFirstOf, IsPlaceFor}
+use Rattle.sip_numbers.specs.Numbers.{IsFirstInBoth, NoneInBoth, has_bit, numbers_of}
+use Rattle.sip_numbers.specs.declared.numbers.Word.{Word}
+use Rattle.sip_numbers.specs.inner.Numbers.{AreWords, IsFirstOf, IsPlaceFor}
 use Rattle.sip_masks.specs.Bits.{test}
 use Rattle.sip_masks.proofs.BitLemmas.{test-and}
-use Rattle.sip_ledger.proofs.bits.BlockLemmas.{has-same, none-has, of-joined, of-first}
-use Rattle.sip_ledger.proofs.bits.PlaceLemmas.{before-place, after-word}
+use Rattle.sip_numbers.proofs.bits.BlockLemmas.{has-same, none-has, of-joined, of-first}
+use Rattle.sip_numbers.proofs.bits.PlaceLemmas.{before-place, after-word}
 
 -- each number from `from` on that both sets have is one of the words at `at` or after it, and of the others at `beside` or after it
 abbrev pub AreLeft : List Word → List Word → ℕ → ℕ → ℕ → Type 0

@@ -146,13 +146,28 @@ def acks_of_one_to(count, _):
     yield from count * [("S", 0, text("ACK sip:b SIP/2.0", "ACK", 1, "t"))]
 
 
-def acks_in_turn(count, _):
-    """Refusals that differ, whose two Tos come in turn, and the ACKs of one To before those of the other."""
+def in_turn(count, tos):
+    """Refusals that differ, whose Tos come in turn, so many of them, and the ACKs of the last To first, then those of the one before it, and so on."""
     yield "S", 0, text(INVITE)
     for number in range(count):
-        yield "R", 0, reply(f"486 {number}", f"t{number % 2}")
-    for number in range(count):
-        yield "S", 0, text("ACK sip:b SIP/2.0", "ACK", 1, "t1" if number < count // 2 else "t0")
+        yield "R", 0, reply(f"486 {number}", f"t{number % tos}")
+    for to in reversed(range(tos)):
+        yield from len(range(to, count, tos)) * [("S", 0, text("ACK sip:b SIP/2.0", "ACK", 1, f"t{to}"))]
+
+
+def acks_in_turn(count, _):
+    """Refusals that differ, whose two Tos come in turn, and the ACKs of one To before those of the other."""
+    yield from in_turn(count, 2)
+
+
+def acks_of_16_in_turn(count, _):
+    """Refusals that differ, whose 16 Tos come in turn, and the ACKs of one To after those of another."""
+    yield from in_turn(count, 16)
+
+
+def acks_of_100_in_turn(count, _):
+    """Refusals that differ, whose hundred Tos come in turn, and the ACKs of one To after those of another."""
+    yield from in_turn(count, 100)
 
 
 def acks_mixed(count, _):
@@ -299,6 +314,8 @@ LOGS = [
     (acks_with_others_between, 4000, (1,)),
     (acks_of_one_to, 4000, (1,)),
     (acks_in_turn, 4000, (1,)),
+    (acks_of_16_in_turn, 4000, (1,)),
+    (acks_of_100_in_turn, 4000, (1,)),
     (acks_mixed, 4000, (1,)),
     (acks_but_the_first, 4000, (1,)),
     (acks_past_two, 4000, (1,)),

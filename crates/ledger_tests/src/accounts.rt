@@ -4,7 +4,8 @@ ghost use Rattle.std.specs.Prelude.{◌<◌, length};
 
 use crate::chance::{Chance, evens};
 use crate::wants::{Done, holds, holds_of};
-use sip_ledger::{Accounts, Debt, Index};
+use sip_ledger::{Accounts, Debt};
+use sip_numbers::Numbers;
 use std::alloc::Global;
 use std::process::Abort;
 use std::test::Fail;
@@ -239,32 +240,36 @@ impl Played {
         Ok(())
     }
 
-    /// The first debt that a send of a message pays that stands under a key is the first such debt of this list.
+    /// The first debt that a send of one of two messages pays is the first such debt of this list.
     fn pays_one_first(&self, rt: &impl Abort, row: usize, list: &[Debt], moment: u64) -> Done {
         // Each two of the messages 0, 1 and 2.
         for two in [[2, 1], [0, 2], [1, 0]] {
-            let mut index = Index::new(self.alloc);
-            // Two messages stand under the key 7, and others under the keys beside it.
-            for (key, message) in [(7, two[0]), (7, two[1]), (6, 0), (8, 3)] {
-                index.put(key, message)?;
-            }
+            let mut messages = Numbers::new(self.alloc);
+            messages.put(two[0])?;
+            messages.put(two[1])?;
             let mut debts = list.iter();
             let first = debts.find(|debt| two.contains(&debt.message) && moment <= debt.deadline);
             let want = first.map(|debt| debt.message);
-            self.pays_first(rt, row, &index, moment, want);
+            self.pays_first(rt, row, &messages, moment, want);
         }
         Ok(())
     }
 
-    /// The first debt that a send of a message pays that stands under the key 7 is the wanted one. It is found in three steps, perhaps in
-    /// fewer, and not in none.
-    fn pays_first(&self, rt: &impl Abort, row: usize, index: &Index, now: u64, want: Option<u64>) {
+    /// The first debt that a send of one of these two messages pays is the wanted one. It is found by a look at three, perhaps at fewer, and not at none.
+    fn pays_first(
+        &self,
+        rt: &impl Abort,
+        row: usize,
+        messages: &Numbers,
+        now: u64,
+        want: Option<u64>,
+    ) {
         for most in 0..4 {
             holds(rt, row < self.accounts.len(), "a row of the accounts");
-            let first = self.accounts.first_payable(row, index, 7, now, most);
+            let first = self.accounts.first_payable(row, messages, now, most);
             let told = match first {
                 Some(first) => first == want && most > 0,
-                // Two messages stand under the key, so that three steps always tell.
+                // The messages are two, so that a look at three always tells.
                 None => most < 3,
             };
             holds_of(rt, told, "first payable", row);

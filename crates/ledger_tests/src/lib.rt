@@ -6,6 +6,8 @@ mod accounts;
 #[cfg(test)]
 mod chance;
 #[cfg(test)]
+mod numbers;
+#[cfg(test)]
 mod refused;
 #[cfg(test)]
 mod wants;

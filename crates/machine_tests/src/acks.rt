@@ -238,12 +238,18 @@ fn entries(alloc: Global) -> Result<Vec<Entry>, AllocError> {
     Ok(entries)
 }
 
+/// The INVITE is sent, and all refusals are received.
+fn push_all(entries: &mut Vec<Entry>) -> Result<(), AllocError> {
+    entries.push((0, Action::Sent, 1))?;
+    for number in 0..MANY {
+        entries.push((100, Action::Received, refusal(number)))?;
+    }
+    Ok(())
+}
+
 /// Appends the entries of `entries`.
 fn push_entries(entries: &mut Vec<Entry>) -> Result<(), AllocError> {
-    entries.push((0, Action::Sent, 1))?;
-    for tag in 0..MANY {
-        entries.push((100, Action::Received, refusal(tag)))?;
-    }
+    push_all(entries)?;
     for tag in 0..MANY / 2 {
         entries.push((110, Action::Sent, 1000 + MANY - 1 - tag))?;
     }
@@ -389,10 +395,7 @@ fn paired(alloc: Global) -> Result<Vec<Entry>, AllocError> {
 
 /// Appends the entries of `paired`.
 fn push_paired(entries: &mut Vec<Entry>) -> Result<(), AllocError> {
-    entries.push((0, Action::Sent, 1))?;
-    for number in 0..MANY {
-        entries.push((100, Action::Received, refusal(number)))?;
-    }
+    push_all(entries)?;
     for tag in 0..=MANY / 2 {
         entries.push((110, Action::Sent, 1000 + (MANY - 1 - tag) / 2))?;
     }
@@ -435,10 +438,7 @@ fn a_refusal_that_came_again_is_paid_after_the_others(rt: HostRuntime) -> Result
 
 /// The INVITE is sent and all refusals are received. The one before the last is acknowledged, comes again, and its ACK is sent again.
 fn push_one_again(entries: &mut Vec<Entry>) -> Result<(), AllocError> {
-    entries.push((0, Action::Sent, 1))?;
-    for number in 0..MANY {
-        entries.push((100, Action::Received, refusal(number)))?;
-    }
+    push_all(entries)?;
     entries.push((110, Action::Sent, 1000 + MANY / 2 - 1))?;
     entries.push((110, Action::Received, refusal(MANY - 2)))?;
     entries.push((110, Action::Sent, 1000 + MANY / 2 - 1))?;
@@ -534,5 +534,33 @@ fn states_with_last(alloc: Global, beside: bool) -> Result<Vec<State<InviteClien
     push_before_last(&mut entries)?;
     entries.push((100, Action::Received, LAST))?;
     entries.push((110, Action::Sent, 2))?;
+    states_after(alloc, &book, &entries)
+}
+
+/// The number of an ACK for none of the refusals of `pairs`. Those of the other messages are at most 1126.
+const STRAY: u64 = 2000;
+
+/// The Tos of the other messages stand beside them, and none is that of the ACK. So it pays nothing, and no state can send it.
+#[test]
+fn an_ack_with_a_to_of_its_own_pays_none_of_many(rt: HostRuntime) -> Result<(), Fail> {
+    let states = states_after_stray(rt.alloc())?;
+    holds(&rt, states.is_empty(), "no state");
+    Ok(())
+}
+
+/// The states of the client after all refusals of `pairs` and an ACK with another To. The To of each message but the ACK stands beside it, since an ACK was
+/// looked for among these before.
+fn states_after_stray(alloc: Global) -> Result<Vec<State<InviteClientPhase>>, Fail> {
+    let mut book = Book::new(alloc);
+    let last = keep_with_tos(alloc, &mut book, &pairs(alloc)?, 1000)?;
+    states_after(alloc, &book, &paired(alloc)?)?;
+    keep_to(alloc, &mut book, 1)?;
+    if STRAY <= last {
+        return Err("out of order".into());
+    }
+    keep_text(alloc, &mut book, STRAY, Start::Request("ACK"), Some(200))?;
+    let mut entries = Vec::new(alloc);
+    push_all(&mut entries)?;
+    entries.push((110, Action::Sent, STRAY))?;
     states_after(alloc, &book, &entries)
 }

@@ -1,5 +1,5 @@
-use Rattle.std.specs.Prelude.{◌≡◌, ◌<◌, ◌≤◌, ◌==◌, ℕ, Bool, true, false, List}
-use Rattle.std.specs.List.{count_by, list_any}
+use Rattle.std.specs.Prelude.{◌≡◌, ◌<◌, ◌≤◌, ℕ, Bool, true, false, List}
+use Rattle.std.specs.List.{list_any}
 use Rattle.std.specs.Ordering.{nat_cmp, ordering_then}
 use Rattle.std.specs.declared.cmp.Ordering.{Ordering}
 use Rattle.std.specs.BTreeMap.{is_at}
@@ -13,10 +13,6 @@ pair_cmp x y = ordering_then (nat_cmp x.0 y.0) (nat_cmp x.1 y.1)
 -- whether the number stands under the key in these pairs
 unfoldable pub holds : List (ℕ × ℕ) → ℕ → ℕ → Bool
 holds pairs key number = list_any (is_at (pair_cmp (key, number))) pairs
-
--- how many numbers stand under the key in these pairs
-abbrev pub count_under : List (ℕ × ℕ) → ℕ → ℕ
-count_under pairs key = count_by (λ pair. pair.0 == key) pairs
 
 -- the pair (key', number') is the pair (key, number), or comes after it
 pub record IsFrom (key number key' number' : ℕ) : Type 0 where

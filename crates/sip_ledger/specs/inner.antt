@@ -1,3 +1,4 @@
 -- What callers do not see: accounts over gains and strikes, and the names that inner contracts cite.
 pub mod Accounts
+pub mod Places
 pub mod Words

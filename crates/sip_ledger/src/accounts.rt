@@ -3,8 +3,8 @@ ghost use Rattle.std.specs.Prelude.{◌≡◌, ◌↔◌, ◌<◌, ◌≤◌, �
 ghost use Rattle.std.specs.List.{list_any};
 ghost use Rattle.sip_ledger.specs.Accounts.{owed_in, AppendsOwed};
 ghost use Rattle.sip_ledger.specs.Debts.{IsFirstPaid, PaysSome, counts_at, softened_debt, is_payable, debt_deadlines, earliest, paid_by};
-ghost use Rattle.sip_ledger.specs.Indexes.{count_under, holds};
-ghost use Rattle.sip_ledger.specs.Lists.{Rise};
+ghost use Rattle.sip_numbers.specs.Numbers.{numbers_of};
+ghost use Rattle.sip_ledger.specs.Lists.{HasMany, Rise};
 ghost use Rattle.sip_ledger.specs.Runs.{AreRuns};
 
 mod account;
@@ -13,11 +13,12 @@ mod gains;
 mod left;
 mod moved;
 mod named;
+mod places;
 mod seek;
 mod strikes;
 
 use crate::accounts::account::{
-    Account, EMPTY, debt_for, earliest_must, expired, find, find_under, first_debts,
+    Account, EMPTY, debt_for, earliest_must, expired, find, find_first, first_debts,
     gained_and_expired, paid_and_expired, place_for, same,
 };
 use crate::accounts::gains::Gains;
@@ -28,8 +29,8 @@ use crate::accounts::seek::Seek;
 use crate::accounts::strikes::Strike;
 use crate::debt::Debt;
 use crate::front;
-use crate::index::Index;
 use crate::run::{Run, runs_of};
+use sip_numbers::Numbers;
 use std::alloc::{AllocError, Global};
 use std::marker::Model;
 
@@ -142,23 +143,22 @@ impl Accounts {
         find(gains, strikes, account, &mut seek, message, moment).is_some()
     }
 
-    /// The message of the row's first debt that a send of one of the messages under the key pays at the moment, if there is one. Where that
-    /// is not told in `most` steps, the answer is None. It is told where fewer than `most` messages stand under the key.
+    /// The message of the row's first debt that a send of one of these messages pays at the moment, if there is one. Where that
+    /// is not told by a look at `most` of them, the answer is None. It is told where they are fewer than `most`.
     pub fn first_payable(
         &self,
         row: usize,
-        index: &Index,
-        key: u64,
+        messages: &Numbers,
         moment: u64,
         most: usize,
     ) -> Option<Option<u64>>
         requires { row < length self.now }
-        ensures first { IfSome result (IsFirstPaid (PaysSome (holds index.now key) moment) moment (owed_in self.now row)) }
-        ensures told { IfNone result (most ≤ count_under index.now key) }
+        ensures first { IfSome result (IsFirstPaid (PaysSome (numbers_of messages.now) moment) moment (owed_in self.now row)) }
+        ensures told { IfNone result (HasMany (numbers_of messages.now) most) }
     {
         let account = self.rows[row];
         let (gains, strikes) = (&self.gains, &self.strikes);
-        let found = find_under(gains, strikes, account, index, key, moment, most)?;
+        let found = find_first(gains, strikes, account, messages, moment, most)?;
         match found {
             Some(place) => Some(Some(self.gains.entry(place).message)),
             None => Some(None),

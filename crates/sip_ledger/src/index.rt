@@ -8,7 +8,7 @@ use std::marker::Model;
 
 /// Which numbers stand under which keys. Contracts see the pairs of a key and a number, in order.
 #[derive(Debug, Drop)]
-pub struct Index {
+pub(crate) struct Index {
     pairs: BTreeSet<(u64, u64)>,
 }
 
@@ -23,7 +23,7 @@ impl Model for Index {
 
 impl Index {
     /// An index without numbers.
-    pub fn new(alloc: Global) -> Self
+    pub(crate) fn new(alloc: Global) -> Self
         ensures { result ≡ [] }
     {
         Index {
@@ -32,7 +32,7 @@ impl Index {
     }
 
     /// Puts the number under the key. On an error all is as before.
-    pub fn put(&mut self, key: u64, number: u64) -> Result<(), AllocError>
+    pub(crate) fn put(&mut self, key: u64, number: u64) -> Result<(), AllocError>
         ensures ok { OnOk result ((k n : ℕ) → holds self.new k n ≡ cond (k == key && n == number) true (holds self.old k n)) }
         ensures err { OnErr result (self.new ≡ self.old) }
     {
@@ -40,11 +40,12 @@ impl Index {
         Ok(())
     }
 
-    /// Takes the number from the key, if it stands there.
-    pub fn take(&mut self, key: u64, number: u64)
-        ensures { (k n : ℕ) → holds self.new k n ≡ cond (k == key && n == number) false (holds self.old k n) }
+    /// Takes the number from the key, if it stands there, and tells whether it did.
+    pub(crate) fn take(&mut self, key: u64, number: u64) -> bool
+        ensures stood { result ≡ holds self.old key number }
+        ensures taken { (k n : ℕ) → holds self.new k n ≡ cond (k == key && n == number) false (holds self.old k n) }
     {
-        let _held = self.pairs.remove(&(key, number));
+        self.pairs.remove(&(key, number))
     }
 
     /// The first pair from (key, number) on, in the order of keys and then of numbers.
@@ -59,7 +60,7 @@ impl Index {
     }
 
     /// The first number under the key, from `from` on.
-    pub fn next(&self, key: u64, from: u64) -> Option<u64>
+    pub(crate) fn next(&self, key: u64, from: u64) -> Option<u64>
         ensures found { IfSome result (IsNextUnder self.now key from) }
         ensures none { IfNone result ((n : ℕ) → from ≤ n → holds self.now key n ≡ false) }
     {

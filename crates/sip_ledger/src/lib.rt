@@ -9,5 +9,4 @@ mod run;
 
 pub use crate::accounts::Accounts;
 pub use crate::debt::Debt;
-pub use crate::index::Index;
 pub use crate::run::Run;

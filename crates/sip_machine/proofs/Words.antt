@@ -27,7 +27,7 @@ pub use Rattle.sip_ledger.proofs.lists.EachLemmas.{on_ok}
 pub use Rattle.sip_ledger.proofs.lists.FrontLemmas.{dropped-first}
 pub use Rattle.sip_ledger.specs.Accounts.{paid_rows}
 pub use Rattle.sip_ledger.specs.Debts.{IsFirstPaid, PaysSome, counts_at, is_payable, is_timely, paid_by}
-pub use Rattle.sip_ledger.specs.Indexes.{holds}
+pub use Rattle.sip_numbers.specs.Numbers.{numbers_of}
 pub use Rattle.sip_ledger.specs.Lists.{from_to}
 pub use Rattle.sip_ledger.specs.declared.debt.Debt.{Debt}
 pub use Rattle.sip_machine.specs.FigureRules.{After}

@@ -14,9 +14,9 @@ mod retain;
 use crate::book::retain::{keep_only, lay_aside, move_all};
 use crate::event::is_unsuccessful;
 use crate::hashed::{Hashed, hash};
+use crate::hashes::Hashes;
 use crate::tos::{MANY, Tos};
 use sip_key::solid_of;
-use sip_ledger::Index;
 use sip_message::{Message, ReadError, StartLine};
 use std::alloc::{AllocError, Global};
 use std::cell::Cell;
@@ -37,9 +37,6 @@ pub struct Book {
     tos: Tos,
     /// The buffers of messages that were forgotten, for those that come.
     spare: Vec<Vec<u8>>,
-    /// How many steps searches for Tos took in vain since messages were forgotten last, and after how many some are to be forgotten again.
-    steps: Cell<usize>,
-    patience: usize,
     /// Whether a search looked at many messages one by one, so that the Tos of all are wanted beside them.
     wanted: Cell<bool>,
 }
@@ -108,8 +105,6 @@ impl Book {
             loose: None,
             tos: Tos::new(alloc),
             spare: Vec::new(alloc),
-            steps: Cell::new(0),
-            patience: 0,
             wanted: Cell::new(false),
         }
     }
@@ -196,7 +191,7 @@ impl Book {
 
     /// The numbers of messages under the hashes of their Tos, from which the blanks were taken. Each message from `low` up to `high` stands
     /// there; where one of them has not its To beside it, or hashes are not kept, the answer is None.
-    pub(crate) fn hashes(&self, low: u64, high: u64) -> Option<&Index>
+    pub(crate) fn hashes(&self, low: u64, high: u64) -> Option<&Hashes>
         ensures { IfSome result (λ hashes. StandUnder self.now low high hashes.now) }
     {
         if kept_between(&self.kept, low, high) != self.tos.between(low, high) {
@@ -273,22 +268,11 @@ impl Book {
         }
     }
 
-    /// Counts steps that a search for a To took in vain.
-    pub(crate) fn count_steps(&self, steps: usize) {
-        self.steps.set(self.steps.get().saturating_add(steps));
-    }
-
     /// Counts messages that a search for a To looked at one by one. Where they are many, and the Tos of all do not stand beside them, these are wanted.
     pub(crate) fn count_messages(&self, messages: usize) {
         if messages >= MANY && !self.tos.takes_all() {
             self.wanted.set(true);
         }
-    }
-
-    /// Whether it costs less to forget messages now than to search for Tos among so many: searches took more steps in vain than messages are
-    /// kept. The contract says nothing of the answer: it tells when to forget, and never what.
-    pub fn is_slow(&self) -> bool {
-        self.steps.get() > self.patience.max(self.kept.len())
     }
 
     /// How many messages are kept.
@@ -305,25 +289,13 @@ impl Book {
         requires kept { All (Keeps self.old) numbers.now }
         ensures { self.new ≡ only numbers.now self.old }
     {
-        let gone = self.kept.len().saturating_sub(numbers.len());
-        self.patience = patience_after(self.patience.max(self.kept.len()), self.steps.get(), gone);
         let is_loose = self.loose.is_some();
         let kept = placed(&self.kept, is_loose);
         move_all(&mut self.order, kept, placed(numbers, is_loose));
         keep_only(&mut self.kept, &mut self.spare, numbers);
         self.loose = loosened(&self.kept, &self.order, is_loose);
         self.tos.retain(numbers);
-        self.steps.set(0);
     }
-}
-
-/// After how many steps in vain messages are to be forgotten again, where after these so many went. Each that is gone was passed by each search since it was
-/// not needed any more. Where fewer went than such searches need, the steps passed messages that stay, and twice as many are waited for.
-fn patience_after(patience: usize, steps: usize, gone: usize) -> usize {
-    if gone.saturating_mul(gone) < steps {
-        return patience.saturating_mul(2);
-    }
-    0
 }
 
 /// Whether the To of the message is to stand beside it: where it refuses an INVITE, since a response that does is owed an ACK; and where

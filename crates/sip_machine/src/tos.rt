@@ -5,7 +5,7 @@ ghost use Rattle.sip_machine.specs.declared.tos.To.{To};
 ghost use Rattle.sip_machine.specs.inner.Tos.{AreUnder, IsChanged, count_between};
 
 use crate::hashed::Hashed;
-use sip_ledger::Index;
+use crate::hashes::Hashes;
 use std::alloc::{AllocError, Global};
 use std::marker::Model;
 
@@ -21,7 +21,7 @@ pub(crate) struct To {
 pub(crate) struct Tos {
     list: Vec<To>,
     /// Where the Tos of all messages are to stand here: the numbers of the messages, under the hashes of their Tos.
-    hashes: Option<Index>,
+    hashes: Option<Hashes>,
 }
 
 /// Where a search for a To looks at this many messages, one by one, the Tos of all messages are to stand here: then no message without one lies
@@ -91,7 +91,8 @@ impl Tos {
         ensures ok { OnOk result (self.new ≡ self.old ++ (record { number = number; text = text }) ∷ []) }
         ensures err { OnErr result (self.new ≡ self.old) }
     {
-        note(&mut self.hashes, text.hash(), number)?;
+        let alloc = *self.list.allocator();
+        note(alloc, &mut self.hashes, text.hash(), number)?;
         self.list.push(To { number, text })?;
         Ok(())
     }
@@ -122,7 +123,7 @@ impl Tos {
     }
 
     /// The numbers of the messages of the list, under the hashes of their Tos, where hashes are kept.
-    pub(crate) fn hashes(&self) -> Option<&Index>
+    pub(crate) fn hashes(&self) -> Option<&Hashes>
         ensures { IfSome result (λ hashes. AreUnder (Some hashes.now) self.now) }
     {
         match &self.hashes {
@@ -164,18 +165,23 @@ fn is_among(numbers: &[u64], number: u64) -> bool
 }
 
 /// Puts the number of a message under the hash of its To, where hashes are kept. On an error all is as before.
-fn note(hashes: &mut Option<Index>, hash: u64, number: u64) -> Result<(), AllocError>
+fn note(
+    alloc: Global,
+    hashes: &mut Option<Hashes>,
+    hash: u64,
+    number: u64,
+) -> Result<(), AllocError>
     ensures ok { OnOk result (IsChanged hash number true hashes.old hashes.new) }
     ensures err { OnErr result (hashes.new ≡ hashes.old) }
 {
     if let Some(hashes) = hashes {
-        hashes.put(hash, number)?;
+        hashes.put(alloc, hash, number)?;
     }
     Ok(())
 }
 
 /// Takes the number of a message from the hash of its To, where hashes are kept.
-fn drop_note(hashes: &mut Option<Index>, hash: u64, number: u64)
+fn drop_note(hashes: &mut Option<Hashes>, hash: u64, number: u64)
     ensures { IsChanged hash number false hashes.old hashes.new }
 {
     if let Some(hashes) = hashes {
@@ -184,16 +190,16 @@ fn drop_note(hashes: &mut Option<Index>, hash: u64, number: u64)
 }
 
 /// The numbers of the messages with these Tos, under the hashes of the Tos; None where they are few, or where there is no memory for it.
-fn hashes_of(alloc: Global, list: &[To]) -> Option<Index>
+fn hashes_of(alloc: Global, list: &[To]) -> Option<Hashes>
     ensures { AreUnder result list.now }
 {
     if list.len() < MANY {
         return None;
     }
-    let mut hashes = Some(Index::new(alloc));
+    let mut hashes = Some(Hashes::new(alloc));
     for at in 0..list.len() {
         let to = &list[at];
-        if note(&mut hashes, to.text.hash(), to.number).is_err() {
+        if note(alloc, &mut hashes, to.text.hash(), to.number).is_err() {
             return None;
         }
     }

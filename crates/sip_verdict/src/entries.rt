@@ -164,8 +164,8 @@ fn find<H: BuildHasher>(
     troubled.tell(entry.number, found)
 }
 
-/// Appends what is found at the entry that comes next. Where many more messages are kept than the last sweep left, or searches among them are
-/// slow, it drops those that no transaction needs.
+/// Appends what is found at the entry that comes next. Where many more messages are kept than the last sweep left, it drops those that no
+/// transaction needs.
 pub(crate) fn find_next<H: BuildHasher>(
     alloc: Global,
     standing: &mut Standing<H>,
@@ -200,7 +200,7 @@ pub(crate) fn find_next<H: BuildHasher>(
 {
     find(alloc, standing, troubled, histories, entry, found)?;
     // `left` is how many messages the last sweep left.
-    if standing.kept() <= 2 * *left + SPARE && !standing.book.is_slow() {
+    if standing.kept() <= 2 * *left + SPARE {
         return Ok(());
     }
     standing.sweep(alloc, entry.moment)?;

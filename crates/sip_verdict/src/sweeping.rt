@@ -22,7 +22,7 @@ use std::hash::BuildHasher;
 pub(crate) const SPARE: usize = 64;
 
 /// Judges the entry that comes next, and answers the verdict if it is in trouble. Where many more messages are kept than the last sweep left,
-/// or searches among them are slow, it drops those that no transaction needs.
+/// it drops those that no transaction needs.
 pub(crate) fn judge_next<H: BuildHasher>(
     alloc: Global,
     standing: &mut Standing<H>,
@@ -46,7 +46,7 @@ pub(crate) fn judge_next<H: BuildHasher>(
         return Ok(Some(verdict));
     }
     // A sweep costs as much as what is kept, so it waits until as much more is kept as the last sweep left.
-    if standing.kept() <= 2 * *left + SPARE && !standing.book.is_slow() {
+    if standing.kept() <= 2 * *left + SPARE {
         return Ok(None);
     }
     standing.sweep(alloc, entry.moment)?;

@@ -1,11 +1,10 @@
--- The first debt of an account that a send at the moment t pays, of one message or of the messages that stand under a key: k and `at` are places of gains.
-use Rattle.sip_ledger.proofs.Words.{◌≡◌, ◌≢◌, ℕ, ◌<◌, ◌≤◌, ◌==◌, ◌&&◌, Bool, true, false, not, List, length, ◌+◌, refl, sym, ap, ◌∙◌, arith, All, All-weaker, IfNone, IfSome, IsTrue, MatchOption, Option, None, Some, nat_le, cases_lt, lt-ltb, true≢false, nat_tests, Entry, Account, Gains, Strike, IsFirstPaid, PaysSome, is_payable, AreGains, IsAccount, IsFirstPaying, IsFirstPayable, IsUndropped, IsWithout, PaysSomeAt, account_debts, entries_of, entry_at, must_at, owes_at, pays_at, sooner, IsNextUnder, holds, ap₂, and-false, and_right, cases_eq, eq-eqb, le-leb, lt-leb, ne_eqb, paid_by, is_left, is_struck, strikes_of}
+-- The first debt of an account that a send at the moment t pays, of one message or of those that pass a test: k and `at` are places of gains.
+use Rattle.sip_ledger.proofs.Words.{◌≡◌, ◌≢◌, ℕ, ◌<◌, ◌≤◌, ◌==◌, ◌&&◌, Bool, true, false, not, List, length, ◌+◌, refl, sym, ap, ◌∙◌, arith, All, All-weaker, IfNone, IfSome, IsTrue, MatchOption, Option, None, Some, nat_le, cases_lt, lt-ltb, true≢false, nat_tests, Entry, Account, Gains, Strike, IsFirstPaid, PaysSome, is_payable, AreGains, IsAccount, IsFirstPaying, IsFirstPayable, IsUndropped, IsWithout, PaysSomeAt, account_debts, entries_of, entry_at, must_at, owes_at, pays_at, sooner, IsNextLeft, NoneLeft, holds, ap₂, and-false, and_right, cases_eq, eq-eqb, le-leb, lt-leb, ne_eqb, paid_by, is_left, is_struck, strikes_of}
 use Rattle.sip_ledger.proofs.debts.ListedLemmas.{listed-each}
 use Rattle.sip_ledger.proofs.debts.OwedLemmas.{removed, paid-behind, paid-is}
 use Rattle.sip_ledger.proofs.gains.LeftLemmas.{held_left, left-kept, owed-left}
 use Rattle.sip_ledger.proofs.account.AccountLemmas.{kept-start, owed-within, past-end, soft-must}
 use Rattle.sip_ledger.proofs.account.WithoutLemmas.{before-start}
-use Rattle.sip_ledger.proofs.lists.IndexLemmas.{count_all}
 
 -- a send of the message does not pay a gain of another message
 pub unnamed-unpaid : (entries : List Entry) (message t k : ℕ) → (entry_at entries k).message ≢ message → pays_at entries message t k ≡ false
@@ -77,68 +76,61 @@ pub ruleset owed_at_place = (past-end, before-start, owes-inside, kept-start)
 pays-parts : (message t : ℕ) (entry : Entry) → (entry.message == message && nat_le t entry.deadline) ≡ true → (entry.message ≡ message) × (t ≤ entry.deadline)
 pays-parts message t entry pays = (grind (arith, nat_tests), grind (arith, nat_tests))
 
--- `first` is the first place that a send at t of a message under the key pays, as far as messages are below `from`: what is owed and paid before it has a
--- message from there on
-pub record IsFirstTo (entries : List Entry) (owes : ℕ → Bool) (pairs : List (ℕ × ℕ)) (key t from : ℕ) (first : Option ℕ) : Type 0 where
-  pub is : IfSome first (λ p. (owes p ≡ true) × PaysSomeAt entries (holds pairs key) t p)
-  pub rest : (k : ℕ) → IfSome first (λ p. k < p) → owes k ≡ true → PaysSomeAt entries (holds pairs key) t k → from ≤ (entry_at entries k).message
+-- `first` is the first place that a send at t of a message that passes the test pays, as far as messages are below `from`: what is owed and paid before it
+-- has a message from there on
+pub record IsFirstTo (entries : List Entry) (owes : ℕ → Bool) (test : ℕ → Bool) (t from : ℕ) (first : Option ℕ) : Type 0 where
+  pub is : IfSome first (λ p. (owes p ≡ true) × PaysSomeAt entries test t p)
+  pub rest : (k : ℕ) → IfSome first (λ p. k < p) → owes k ≡ true → PaysSomeAt entries test t k → from ≤ (entry_at entries k).message
 
--- where the next message under the key from `from` on does not pay a gain that a message under the key from there on pays, that is a greater one
-passed : (entries : List Entry) (t k : ℕ) {pairs : List (ℕ × ℕ)} {key from message : ℕ} → IsNextUnder pairs key from message → from ≤ (entry_at entries k).message →
-    PaysSomeAt entries (holds pairs key) t k → pays_at entries message t k ≡ false → message + 1 ≤ (entry_at entries k).message
-passed entries t k {pairs} {key} {from} {message} next low pays unpaid =
-    grind (arith, nat_tests, cases_lt, cases_eq, true≢false, next.none_before (entry_at entries k).message, named-pays entries message t k)
-
--- What follows is of the search of `find_under`: the gains and which of them are owed, the pairs of an index, the key that is looked up, and the moment t.
-module _ {entries : List Entry} {owes : ℕ → Bool} {pairs : List (ℕ × ℕ)} {key t from : ℕ} where
-  -- the first place so far is the first of all where nothing that is owed before it has a message under the key from `from` on
-  pub first-all : (first : Option ℕ) → IsFirstTo entries owes pairs key t from first →
-      ((k : ℕ) → IfSome first (λ p. k < p) → owes k ≡ true → holds pairs key (entry_at entries k).message ≡ true → ¬ (from ≤ (entry_at entries k).message)) →
-      IsFirstPaying entries owes (holds pairs key) t first
+-- What follows is of the search of `find_first`: of one account, the test of messages, the moment t, and the message from which the search goes on.
+module _ (gains : Gains) (strikes : List Strike) (a : Account) {test : ℕ → Bool} {t from : ℕ} where
+  -- the first place so far is the first of all where nothing that is owed has a message from `from` on that passes the test
+  pub first-all : (first : Option ℕ) → IsFirstTo (entries_of gains) (owes_at gains strikes a) test t from first →
+      ((k : ℕ) → IfSome first (λ p. k < p) → owes_at gains strikes a k ≡ true → test (entry_at (entries_of gains) k).message ≡ true → ¬ (from ≤ (entry_at (entries_of gains) k).message)) →
+      IsFirstPaying (entries_of gains) (owes_at gains strikes a) test t first
   first-all None was none = λ k owed pays. none k tt owed pays.0 (was.rest k tt owed pays)
   first-all (Some p) was none = (was.is.0, was.is.1, λ k early owed pays. none k early owed pays.0 (was.rest k early owed pays))
 
-  -- the first place stays up to a number where each message under the key from `from` on that is owed is not below that
-  pub first-stays : {first : Option ℕ} (to : ℕ) → IsFirstTo entries owes pairs key t from first →
-      ((k : ℕ) → owes k ≡ true → holds pairs key (entry_at entries k).message ≡ true → from ≤ (entry_at entries k).message → to ≤ (entry_at entries k).message) →
-      IsFirstTo entries owes pairs key t to first
-  first-stays to was none = record { is = was.is; rest = λ k early owed pays. none k owed pays.0 (was.rest k early owed pays) }
+  -- where the next message that passes the test and is left does not pay a gain that a message from there on pays, that is a greater one
+  passed : {message : ℕ} (k : ℕ) → IsNextLeft gains.messages test from message → owes_at gains strikes a k ≡ true → from ≤ (entry_at (entries_of gains) k).message →
+      PaysSomeAt (entries_of gains) test t k → pays_at (entries_of gains) message t k ≡ false → message + 1 ≤ (entry_at (entries_of gains) k).message
+  passed {message} k next owed low pays unpaid =
+      let m = (entry_at (entries_of gains) k).message in
+      grind (arith, nat_tests, cases_lt, cases_eq, true≢false, next.none_before m k, held_left gains m k, owed-left, named-pays (entries_of gains) message t k)
 
-  -- the next message under the key is gone through too with the first place that is found for it
-  pub one-found : {message : ℕ} (first place : Option ℕ) → IsFirstTo entries owes pairs key t from first → IsNextUnder pairs key from message →
-      IfSome place (IsFirstPayable entries owes message t) → IfNone place ((k : ℕ) → owes k ≡ true → pays_at entries message t k ≡ false) →
-      IsFirstTo entries owes pairs key t (message + 1) (sooner first place)
-  one-found None None was next found none = record { is = tt; rest = λ k early owed pays. passed entries t k next (was.rest k tt owed pays) pays (none k owed) }
+  -- the next message is gone through too with the first place that is found for it
+  pub one-found : {message : ℕ} (first place : Option ℕ) → IsFirstTo (entries_of gains) (owes_at gains strikes a) test t from first → IsNextLeft gains.messages test from message →
+      IfSome place (IsFirstPayable (entries_of gains) (owes_at gains strikes a) message t) → IfNone place ((k : ℕ) → owes_at gains strikes a k ≡ true → pays_at (entries_of gains) message t k ≡ false) →
+      IsFirstTo (entries_of gains) (owes_at gains strikes a) test t (message + 1) (sooner first place)
+  one-found None None was next found none = record { is = tt; rest = λ k early owed pays. passed k next owed (was.rest k tt owed pays) pays (none k owed) }
   one-found None (Some q) was next found none = record {
     is = grind (arith, nat_tests, pays-parts);
-    rest = λ k early owed pays. passed entries t k next (was.rest k tt owed pays) pays (found.before k early owed);
+    rest = λ k early owed pays. passed k next owed (was.rest k tt owed pays) pays (found.before k early owed);
   }
-  one-found (Some p) None was next found none = record { is = was.is; rest = λ k early owed pays. passed entries t k next (was.rest k early owed pays) pays (none k owed) }
+  one-found (Some p) None was next found none = record { is = was.is; rest = λ k early owed pays. passed k next owed (was.rest k early owed pays) pays (none k owed) }
   one-found (Some p) (Some q) was next found none = record {
     is = grind (arith, nat_tests, cases_lt, pays-parts);
-    rest = λ k early owed pays. passed entries t k next (was.rest k (omega arith) owed pays) pays (found.before k (omega arith) owed);
+    rest = λ k early owed pays. passed k next owed (was.rest k (omega arith) owed pays) pays (found.before k (omega arith) owed);
   }
 
--- What follows is of one account.
-module _ (gains : Gains) (strikes : List Strike) (a : Account) where
-  -- what is owed of a message under the key from `from` on is left under its message, which is the next one or a greater one
-  pub owed-next : {pairs : List (ℕ × ℕ)} {key from message : ℕ} (k : ℕ) → IsNextUnder pairs key from message → owes_at gains strikes a k ≡ true →
-      holds pairs key (entry_at (entries_of gains) k).message ≡ true → from ≤ (entry_at (entries_of gains) k).message →
-      (message ≤ (entry_at (entries_of gains) k).message) × (holds gains.messages (entry_at (entries_of gains) k).message k ≡ true)
-  owed-next {pairs} {key} {from} {message} k next owed under low =
-      let m = (entry_at (entries_of gains) k).message in grind (arith, nat_tests, cases_lt, true≢false, next.none_before m, held_left gains m k, owed-left)
+  -- where nothing is left of messages from `from` on that pass the test, what was found is the first of all
+  pub first-left : (first : Option ℕ) → IsFirstTo (entries_of gains) (owes_at gains strikes a) test t from first → NoneLeft gains.messages test from → IsFirstPaying (entries_of gains) (owes_at gains strikes a) test t first
+  first-left first was none = first-all first was (λ k early owed passes low.
+      let m = (entry_at (entries_of gains) k).message in grind (arith, true≢false, none m k, held_left gains m k, owed-left))
 
-  -- the place of a debt that is found is kept
-  pub found-kept : (message t : ℕ) (place : Option ℕ) → AreGains gains → IfSome place (IsFirstPayable (entries_of gains) (owes_at gains strikes a) message t) → IfSome place (IsUndropped gains)
-  found-kept message t None gained found = tt
-  found-kept message t (Some p) gained found = left-kept gains p gained (owed-left gains strikes a p found.owed)
+-- the place of a debt that is found is kept
+pub found-kept : (gains : Gains) (strikes : List Strike) (a : Account) (message t : ℕ) (place : Option ℕ) → AreGains gains →
+    IfSome place (IsFirstPayable (entries_of gains) (owes_at gains strikes a) message t) → IfSome place (IsUndropped gains)
+found-kept gains strikes a message t None gained found = tt
+found-kept gains strikes a message t (Some p) gained found = left-kept gains p gained (owed-left gains strikes a p found.owed)
 
-  -- where no gain before the place of a message has a greater one, nothing greater comes before what is found
-  pub newest-first : {pairs : List (ℕ × ℕ)} {key t : ℕ} (message : ℕ) (first place : Option ℕ) → AreGains gains → IfSome place (IsFirstPayable (entries_of gains) (owes_at gains strikes a) message t) →
-      MatchOption place ⊥ (λ p. (k : ℕ) → k ≤ p → IsUndropped gains k → (entry_at (entries_of gains) k).message ≤ (entry_at (entries_of gains) p).message) →
-      IsFirstTo (entries_of gains) (owes_at gains strikes a) pairs key t (message + 1) (sooner first place) → IsFirstPaying (entries_of gains) (owes_at gains strikes a) (holds pairs key) t (sooner first place)
-  newest-first message first None gained found newest was = absurd newest
-  newest-first message first (Some p) gained found newest was = first-all (sooner first (Some p)) was (λ k early owed under low. grind (arith, nat_tests, pays-parts, left-kept, owed-left))
+-- where no gain before the place of a message has a greater one, nothing greater comes before what is found
+pub newest-first : (gains : Gains) (strikes : List Strike) (a : Account) {test : ℕ → Bool} {t : ℕ} (message : ℕ) (first place : Option ℕ) → AreGains gains →
+    IfSome place (IsFirstPayable (entries_of gains) (owes_at gains strikes a) message t) →
+    MatchOption place ⊥ (λ p. (k : ℕ) → k ≤ p → IsUndropped gains k → (entry_at (entries_of gains) k).message ≤ (entry_at (entries_of gains) p).message) →
+    IsFirstTo (entries_of gains) (owes_at gains strikes a) test t (message + 1) (sooner first place) → IsFirstPaying (entries_of gains) (owes_at gains strikes a) test t (sooner first place)
+newest-first gains strikes a message first None gained found newest was = absurd newest
+newest-first gains strikes a message first (Some p) gained found newest was = first-all gains strikes a (sooner first (Some p)) was (λ k early owed under low. grind (arith, nat_tests, pays-parts, left-kept, owed-left))
 
 -- What follows is of one account, and what a send at the moment t of a message that passes the test pays of it.
 module _ (gains : Gains) (strikes : List Strike) (a : Account) (test : ℕ → Bool) (t : ℕ) where
@@ -170,5 +162,5 @@ module _ (gains : Gains) (strikes : List Strike) (a : Account) (test : ℕ → B
   unfolding account_debts
   none-account none = listed-each (λ debt. ¬ (PaysSome test t debt)) owed (must_at gains a) (entries_of gains) (λ k below here. none k here)
 
--- lemmas for the prover under one name: the first place that a message under a key pays
-pub ruleset found_under_key = (first-all, owed-next, found-kept, count_all)
+-- lemmas for the prover under one name: the first place that some messages pay
+pub ruleset found_of_some = (first-left, found-kept)

@@ -1,5 +1,5 @@
--- Indexes as pairs of a key and a number, the order of the pairs, and how many numbers stand under a key.
-use Rattle.sip_ledger.proofs.Words.{◌≡◌, ◌==◌, ◌&&◌, ◌<◌, ◌≤◌, ℕ, Bool, true, false, List, [], ◌∷◌, cond, refl, sym, ap, arith, true≢false, nat_le, count_by, is_at, list_any, nat_tests, sum_by-cons, count_under, holds, pair_cmp, length, is_eq, is_gt, BTreeSet, IsKeyRangeOf, IsLowerBound, IsUpperBound, Included, Unbounded, IsFrom, IsFirstFrom, NoneFrom}
+-- Indexes as pairs of a key and a number, and the order of the pairs.
+use Rattle.sip_ledger.proofs.Words.{◌≡◌, ◌==◌, ◌&&◌, ◌<◌, ◌≤◌, ℕ, Bool, true, false, List, [], ◌∷◌, cond, refl, sym, ap, arith, true≢false, is_at, nat_tests, holds, pair_cmp, length, is_eq, is_gt, BTreeSet, IsKeyRangeOf, IsLowerBound, IsUpperBound, Included, Unbounded, IsFrom, IsFirstFrom, NoneFrom}
 
 -- what is chosen by whether two pairs compare as equal is chosen by their numbers
 pub at-pair : (a b c d : ℕ) (here old : Bool) → cond (is_eq (pair_cmp (a, b) (c, d))) here old ≡ cond (c == a && d == b) here old
@@ -31,32 +31,3 @@ pub none-held : (pairs : List (ℕ × ℕ)) → ¬ (0 < length pairs) → (k n :
 unfolding holds
 none-held [] none k n held = true≢false (sym held)
 none-held (pair ∷ pairs) none k n held = none (omega arith)
-
--- how many numbers from one on stand under the key
-unfoldable pub count_from : List (ℕ × ℕ) → ℕ → ℕ → ℕ
-count_from pairs key from = count_by (λ pair. pair.0 == key && nat_le from pair.1) pairs
-
--- What follows is of two tests of pairs: what passes `few` passes `more`.
-module _ (few more : ℕ × ℕ → Bool) (wider : (pair : ℕ × ℕ) → few pair ≡ true → more pair ≡ true) where
-  -- no more pairs pass the narrower test
-  count-less : (pairs : List (ℕ × ℕ)) → count_by few pairs ≤ count_by more pairs
-  count-less [] = omega arith
-  count-less (pair ∷ pairs) = grind (arith, nat_tests, wider pair, count-less pairs, sum_by-cons (λ p. cond (few p) 1 0) pair pairs, sum_by-cons (λ p. cond (more p) 1 0) pair pairs)
-
-  -- fewer pairs pass the narrower test where there is one that passes the other alone
-  count-fewer : (alone : ℕ × ℕ → Bool) → ((pair : ℕ × ℕ) → alone pair ≡ true → (few pair ≡ false) × (more pair ≡ true)) → (pairs : List (ℕ × ℕ)) → list_any alone pairs ≡ true →
-      count_by few pairs < count_by more pairs
-  count-fewer alone each [] held = absurd (true≢false (sym held))
-  count-fewer alone each (pair ∷ pairs) held = grind (arith, nat_tests, each pair, wider pair, count-less pairs, count-fewer alone each pairs, sum_by-cons (λ p. cond (few p) 1 0) pair pairs, sum_by-cons (λ p. cond (more p) 1 0) pair pairs)
-
--- all numbers are from 0 on
-pub count_all : (pairs : List (ℕ × ℕ)) (key : ℕ) → count_from pairs key 0 ≤ count_under pairs key
-unfolding count_from
-count_all pairs key = count-less (λ pair. pair.0 == key && nat_le 0 pair.1) (λ pair. pair.0 == key) (λ pair is. grind (arith, nat_tests)) pairs
-
--- where a number is passed that stands under the key, fewer are left
-pub count_passed : (key from to number : ℕ) → from ≤ number → number < to → (pairs : List (ℕ × ℕ)) → holds pairs key number ≡ true → count_from pairs key to < count_from pairs key from
-unfolding holds count_from
-count_passed key from to number after before pairs held =
-    count-fewer (λ pair. pair.0 == key && nat_le to pair.1) (λ pair. pair.0 == key && nat_le from pair.1) (λ pair is. grind (arith, nat_tests)) (is_at (pair_cmp (key, number)))
-    (λ pair is. (grind (arith, nat_tests), grind (arith, nat_tests))) pairs held

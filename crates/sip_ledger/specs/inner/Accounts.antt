@@ -1,7 +1,5 @@
 use Rattle.std.specs.Prelude.{◌≡◌, ◌≢◌, ◌==◌, ◌&&◌, ◌||◌, ◌<◌, ◌≤◌, ◌+◌, ◌-◌, ◌^◌, ℕ, Bool, true, false, not, cond, Option, Some, None, IfSome, IfNone, List, [], ◌∷◌, ◌++◌, All, drop, get_or, length, map, min, nat_le, nat_lt, replicate, set, take}
 use Rattle.std.specs.List.{list_any}
-use Rattle.std.specs.declared.ops.Bound.{Bound}
-use Rattle.std.specs.declared.ops.Bound.TheVariants.{Excluded, Included, Unbounded}
 use Rattle.sip_ledger.specs.declared.debt.Debt.{Debt}
 use Rattle.sip_ledger.specs.declared.debt.Entry.{Entry}
 use Rattle.sip_ledger.specs.declared.run.Run.{Run}
@@ -33,11 +31,10 @@ entries_of gains = replicate (gains.end - length gains.entries.items) blank ++ g
 unfoldable pub is_left : Gains → ℕ → Bool
 is_left gains k = holds gains.messages (entry_at (entries_of gains) k).message k
 
--- the least number in the bound
-abbrev pub least_in : Bound ℕ → ℕ
-least_in Unbounded = 0
-least_in (Included message) = message
-least_in (Excluded message) = message + 1
+-- the least number after the last one, or of all
+abbrev pub least_after : Option ℕ → ℕ
+least_after None = 0
+least_after (Some last) = last + 1
 
 -- the gain at the place is kept
 pub record IsUndropped (gains : Gains) (k : ℕ) : Type 0 where

@@ -1,14 +1,13 @@
 //! What one row owes of what was gained.
 ghost use Rattle.std.specs.Prelude.{◌≡◌, ◌≢◌, ◌↔◌, ◌<◌, ◌≤◌, ◌*◌, ◌%◌, ◌^◌, ◌++◌, ◌∷◌, ◌+◌};
-ghost use Rattle.sip_ledger.specs.inner.Words.{[], ℕ, Bool, true, false, Some, IfOk, IfSome, IfNone, IsTrue, OnOk, OnErr, bit_xor, filter, length, option_to_list, take, OnTrue, counts_at, debt_deadlines, earliest, is_timely, paid_by, worth_of, debt_of, Account, AreGains, IsAccount, IsAfter, IsExpiredTo, IsFirstPaying, IsFirstPayable, IsGainAt, IsUndropped, IsNextGain, IsPlaceOf, IsSeek, IsStruck, IsWithout, KeepsAccounts, SharesNext, account_debts, entries_of, entry_at, is_struck, must_at, owes_at, pays_at, softened_account, sooner, strikes_of, count_under, holds};
+ghost use Rattle.sip_ledger.specs.inner.Words.{[], ℕ, Bool, true, false, Some, IfOk, IfSome, IfNone, IsTrue, OnOk, OnErr, bit_xor, filter, length, option_to_list, take, OnTrue, counts_at, debt_deadlines, earliest, is_timely, paid_by, worth_of, debt_of, Account, AreGains, IsAccount, IsAfter, IsExpiredTo, IsFirstPaying, IsFirstPayable, IsGainAt, IsUndropped, IsNextGain, IsPlaceOf, IsSeek, IsStruck, IsWithout, KeepsAccounts, SharesNext, account_debts, entries_of, entry_at, is_struck, must_at, owes_at, pays_at, softened_account, sooner, strikes_of, HasMany, holds, numbers_of};
 
 use crate::accounts::gains::Gains;
 use crate::accounts::seek::Seek;
 use crate::accounts::strikes::{Strike, Strikes, are_same, first_alone, put, struck_to};
 use crate::debt::Debt;
-use crate::index::Index;
+use sip_numbers::Numbers;
 use std::alloc::{AllocError, Global};
-use std::ops::Bound;
 
 /// What a row owes: what was gained at the places from `start` up to `end`, but for what its strikes say. What was gained below
 /// `soft` has not to be sent.
@@ -77,10 +76,13 @@ fn next(gains: &Gains, strikes: &[Strike], account: Account, from: usize) -> usi
     ensures { IsAfter gains.now strikes.now account from result }
 {
     let mut place = from;
-    while place < account.end && !owes(gains, strikes, account, place) {
-        place += 1;
+    while place < account.end {
+        if owes(gains, strikes, account, place) {
+            return place;
+        }
+        place = gains.next_left(place + 1);
     }
-    place
+    account.end
 }
 
 /// A number for a message and a deadline, which tells most apart at once. Its upper half is mixed in at the end, since the multiplications carry upwards
@@ -175,50 +177,41 @@ pub(crate) fn find(
     None
 }
 
-/// The first place whose debt a send of one of the messages under the key pays at the moment. The index gives the messages under the key
-/// and the gains give those that are still owed. Both are asked in turn, so that each step goes to a greater message, and passes one that
-/// stands under the key. The search ends where nothing greater is left or was gained, or where what is found stands before all greater ones.
-/// Where it takes more than `most` steps, the answer is None.
-#[tactic(auto, using(crate::proofs::account::FindLemmas::found_under_key))]
-pub(crate) fn find_under(
+/// The first place whose debt a send of one of the messages pays at the moment. Those of them of which a gain is left are gone through, from the least on.
+/// The search ends where no greater one is left or was gained, or where what is found stands before all greater ones.
+/// Where it goes through more than `most` messages, the answer is None.
+#[tactic(auto, using(crate::proofs::account::FindLemmas::found_of_some))]
+pub(crate) fn find_first(
     gains: &Gains,
     strikes: &[Strike],
     account: Account,
-    index: &Index,
-    key: u64,
+    messages: &Numbers,
     moment: u64,
     most: usize,
 ) -> Option<Option<usize>>
     requires gained { AreGains gains.now }
     requires account { IsAccount gains.now strikes.now account }
-    ensures first { IfSome result (IsFirstPaying (entries_of gains.now) (owes_at gains.now strikes.now account) (holds index.now key) moment) }
-    ensures told { IfNone result (most ≤ count_under index.now key) }
+    ensures first { IfSome result (IsFirstPaying (entries_of gains.now) (owes_at gains.now strikes.now account) (numbers_of messages.now) moment) }
+    ensures told { IfNone result (HasMany (numbers_of messages.now) most) }
 {
     let mut first = None;
     let mut from = 0;
     for _step in 0..most {
-        // The next message under the key, and the next one from it on of which a gain is left.
-        let Some(message) = index.next(key, from) else {
+        let Some(message) = gains.messages.next_among(messages, from) else {
             return Some(first);
         };
-        let Some((left, mut seek)) = gains.next_message(Bound::Included(message)) else {
+        let mut seek = Seek::new(gains, message, account.start);
+        let place = find(gains, strikes, account, &mut seek, message, moment);
+        first = sooner(first, place);
+        // Up to this place no greater message was gained, so none is found sooner.
+        if gains.is_newest(place) {
             return Some(first);
-        };
-        from = left;
-        // Where they are the same, a gain of a message under the key is left; otherwise the search goes on from the greater one.
-        if left == message {
-            let place = find(gains, strikes, account, &mut seek, message, moment);
-            first = sooner(first, place);
-            // Up to this place no greater message was gained, so none is found sooner.
-            if gains.is_newest(place) {
-                return Some(first);
-            }
-            // No greater message was gained at all.
-            if gains.highest <= message {
-                return Some(first);
-            }
-            from = message + 1;
         }
+        // No greater message was gained at all.
+        if gains.highest <= message {
+            return Some(first);
+        }
+        from = message + 1;
     }
     None
 }

@@ -1,13 +1,13 @@
 //! What the rows gained: one list for all.
 ghost use Rattle.std.specs.Prelude.{◌≡◌, ◌<◌, ◌≤◌, ◌+◌, ◌==◌, ◌&&◌, ◌++◌, ◌∷◌};
-ghost use Rattle.sip_ledger.specs.inner.Words.{ℕ, [], IfSome, IfNone, MatchOption, OnOk, OnErr, cond, length, true, false, OnTrue, AreGains, AreRising, AreSameGains, IsDropped, IsGain, IsUndropped, IsLetGo, IsNext, IsNoted, IsPlaceOf, IsSeek, entries_of, entry_at, flags_at, holds, least_in};
+ghost use Rattle.sip_ledger.specs.inner.Words.{ℕ, [], IfSome, IfNone, MatchOption, OnOk, OnErr, cond, length, true, false, OnTrue, AreGains, AreRising, AreSameGains, IsDropped, IsGain, IsUndropped, IsLetGo, IsNext, IsNoted, IsPlaceOf, IsSeek, entries_of, entry_at, flags_at, holds, is_left, least_after};
 
+use crate::accounts::places::Places;
 use crate::accounts::seek::Seek;
 use crate::debt::{Debt, Entry};
 use crate::front;
 use crate::index::Index;
 use std::alloc::{AllocError, Global};
-use std::ops::Bound;
 
 /// What is asked of a gain most often.
 #[derive(Clone, Copy, Debug)]
@@ -30,7 +30,7 @@ pub(crate) struct Gains {
     /// How many gains there were.
     pub end: usize,
     /// The places of the gains that are left, under the messages.
-    pub messages: Index,
+    pub messages: Places,
     /// The places of what must be sent, under 0.
     pub musts: Index,
     /// Whether no deadline is below the one before it, as far as gains are kept.
@@ -50,7 +50,7 @@ impl Gains {
             entries: Vec::new(alloc),
             flags: Vec::new(alloc),
             end: 0,
-            messages: Index::new(alloc),
+            messages: Places::new(alloc),
             musts: Index::new(alloc),
             rises: true,
             highest: 0,
@@ -160,19 +160,37 @@ impl Gains {
         Some(at as usize)
     }
 
-    /// The first message from this bound on of which something is left, and the first place where it is.
-    pub(crate) fn next_message(&self, from: Bound<u64>) -> Option<(u64, Seek)>
+    /// A place from this one on before which no gain from this one on is left: that of the next gain that is left, mostly.
+    pub(crate) fn next_left(&self, from: usize) -> usize
         requires { AreGains self.now }
-        ensures low { IfSome result (λ found. least_in from ≤ found.0) }
-        ensures before { IfSome result (λ found. (m k : ℕ) → least_in from ≤ m → m < found.0 → holds self.now.messages m k ≡ false) }
-        ensures seek { IfSome result (λ found. IsSeek self.now found.0 found.1) }
-        ensures none { IfNone result ((m k : ℕ) → least_in from ≤ m → holds self.now.messages m k ≡ false) }
+        ensures low { from ≤ result }
+        ensures before { (k : ℕ) → from ≤ k → k < result → is_left self.now k ≡ false }
     {
-        let (message, place) = match from {
-            Bound::Unbounded => self.messages.first_from(0, 0)?,
-            Bound::Included(message) => self.messages.first_from(message, 0)?,
+        if self.end <= from {
+            return from;
+        }
+        // The place itself is looked at before the set is asked.
+        if self.first() <= from && self.flags(from).left {
+            return from;
+        }
+        match self.messages.next_place(from as u64) {
+            Some(place) => place as usize,
+            None => self.end,
+        }
+    }
+
+    /// The first message after this one, or of all, of which something is left, and the first place where it is.
+    pub(crate) fn next_message(&self, last: Option<u64>) -> Option<(u64, Seek)>
+        requires { AreGains self.now }
+        ensures low { IfSome result (λ found. least_after last ≤ found.0) }
+        ensures before { IfSome result (λ found. (m k : ℕ) → least_after last ≤ m → m < found.0 → holds self.now.messages m k ≡ false) }
+        ensures seek { IfSome result (λ found. IsSeek self.now found.0 found.1) }
+        ensures none { IfNone result ((m k : ℕ) → least_after last ≤ m → holds self.now.messages m k ≡ false) }
+    {
+        let (message, place) = match last {
             // No place is `u64::MAX`, so from there on the next message is a greater one.
-            Bound::Excluded(message) => self.messages.first_from(message, u64::MAX)?,
+            Some(last) => self.messages.first_from(last, u64::MAX)?,
+            None => self.messages.first_from(0, 0)?,
         };
         let place = Some(place as usize);
         Some((message, Seek { low: 0, place }))
@@ -218,7 +236,7 @@ impl Gains {
     {
         let message = self.entry(place).message;
         self.messages.take(message, place as u64);
-        self.musts.take(0, place as u64);
+        let _must = self.musts.take(0, place as u64);
         // The gain stays in the list, so that the places stay; its flags say that it is not left.
         let at = place - (self.end - self.entries.len());
         self.flags[at] = Flags {
@@ -244,7 +262,7 @@ impl Gains {
 }
 
 /// Puts the place of a gain under its message, and among those of what must be sent if it must. On an error it stands nowhere.
-fn note(messages: &mut Index, musts: &mut Index, place: u64, debt: Debt) -> Result<(), AllocError>
+fn note(messages: &mut Places, musts: &mut Index, place: u64, debt: Debt) -> Result<(), AllocError>
     requires message { (m : ℕ) → holds messages.old m place ≡ false }
     requires must { holds musts.old 0 place ≡ false }
     ensures ok { OnOk result (IsNoted place debt messages.old musts.old messages.new musts.new) }

@@ -7,7 +7,6 @@ use crate::accounts::gains::Gains;
 use crate::accounts::seek::Seek;
 use crate::accounts::strikes::Strike;
 use std::alloc::AllocError;
-use std::ops::Bound;
 
 /// Puts the numbers of the messages that accounts owe after the others, from the least on, each once. On an error some of them are there.
 #[tactic(auto, using(crate::proofs::rows::SeenLemmas::named_by_message))]
@@ -21,12 +20,12 @@ pub(crate) fn name_all(
     ensures ok { OnOk result (AppendsOwed (accounts_debts gains.now strikes.now rows.now) numbers.old.items numbers.new.items) }
     ensures err { OnErr result (take (length numbers.old.items) numbers.new.items ≡ numbers.old.items) }
 {
-    let mut from = Bound::Unbounded;
-    while let Some(left) = gains.next_message(from) {
+    let mut last = None;
+    while let Some(left) = gains.next_message(last) {
         if is_named(gains, strikes, rows, left) {
             numbers.push(left.0)?;
         }
-        from = Bound::Excluded(left.0);
+        last = Some(left.0);
     }
     Ok(())
 }

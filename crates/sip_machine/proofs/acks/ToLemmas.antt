@@ -1,5 +1,6 @@
 -- The To that stands beside a kept message stays what it is, and tells which of the messages has a To.
-use Rattle.sip_machine.proofs.Words.{◌≡◌, ◌≢◌, ◌<◌, ◌≤◌, ◌↔◌, ◌-◌, ◌+◌, ℕ, Bool, true, false, IfSome, IsTrue, Option, Some, None, bytes_eq, List, [], ◌∷◌, ◌++◌, All, AllPairs, Contains, is_some, length, map, slice_get, take, items_where_true, bytes_decides, true≢false, sym, ◌∙◌, ap, subst, arith, get_or, nat_tests, and-false, cases_lt, ne_eqb, get_or_picked, get_or_from_slice_get, get_or-map, get_or-take, length-map, length-take-le, take_all, All-contains, All-contains_itself, All-from_retain, IsFiltered, All-get_or, All-push, All-weaker, AllPairs-cons, AllPairs-head, AllPairs-tail, holds, same_reading, solid, Texts, IsBook, Keeps, text_of, only, To, full_hash, IsToOf, IsTo, AreTos, AreUnder, StandUnder, IsChanged, IsUnder, count_between}
+use Rattle.sip_machine.proofs.Words.{◌≡◌, ◌≢◌, ◌<◌, ◌≤◌, ◌↔◌, ◌-◌, ◌+◌, ℕ, Bool, true, false, IfSome, IsTrue, Option, Some, None, bytes_eq, List, [], ◌∷◌, ◌++◌, All, AllPairs, Contains, is_some, length, map, slice_get, take, items_where_true, bytes_decides, true≢false, sym, ◌∙◌, ap, subst, arith, get_or, nat_tests, and-false, cases_lt, ne_eqb, get_or_picked, get_or_from_slice_get, get_or-map, get_or-take, length-map, length-take-le, take_all, All-contains, All-contains_itself, All-from_retain, IsFiltered, All-get_or, All-push, All-weaker, AllPairs-cons, AllPairs-head, AllPairs-tail, same_reading, solid, Texts, IsBook, Keeps, text_of, only, To, full_hash, IsToOf, IsTo, AreTos, AreUnder, StandUnder, IsChanged, IsUnder, count_between}
+use Rattle.sip_machine.specs.inner.Hashes.{Sets, stands}
 use Rattle.sip_machine.proofs.texts.BesideLemmas.{among-all, count_between-is, many}
 use Rattle.sip_machine.proofs.texts.TextLaws.{Keeps-grow, text_of-grow}
 use Rattle.sip_machine.proofs.texts.RetainLemmas.{only-Keeps, text_of-only}
@@ -105,26 +106,26 @@ AllPairs-take R n xs up = grind (arith, nat_tests, cases_lt, take_all, length-ta
 -- where they were before.
 
 -- a number that is put under a hash stands there
-pub put-here : (hash number : ℕ) (old new : Option (List (ℕ × ℕ))) → IsChanged hash number true old new → IsUnder new hash number
+pub put-here : (hash number : ℕ) (old new : Option Sets) → IsChanged hash number true old new → IsUnder new hash number
 put-here hash number old None changed = tt
 put-here hash number None (Some new) changed = absurd changed
 put-here hash number (Some old) (Some new) changed = grind (arith, nat_tests, changed hash number)
 
 -- where a number is put under a hash, what stood under a hash stands there
-pub put-keeps : (hash number : ℕ) (old new : Option (List (ℕ × ℕ))) → IsChanged hash number true old new → (h n : ℕ) → IsUnder old h n → IsUnder new h n
+pub put-keeps : (hash number : ℕ) (old new : Option Sets) → IsChanged hash number true old new → (h n : ℕ) → IsUnder old h n → IsUnder new h n
 put-keeps hash number old None changed h n is = tt
 put-keeps hash number None (Some new) changed h n is = absurd changed
 put-keeps hash number (Some old) (Some new) changed h n is = grind (arith, nat_tests, changed h n)
 
 -- where the number of a To is put under its hash, it stands there after the others, and these stand under theirs
-pub under-put : (to : To) (old new : Option (List (ℕ × ℕ))) (tos : List To) → IsChanged (full_hash to.text) to.number true old new → AreUnder old tos → AreUnder new (tos ++ to ∷ [])
+pub under-put : (to : To) (old new : Option Sets) (tos : List To) → IsChanged (full_hash to.text) to.number true old new → AreUnder old tos → AreUnder new (tos ++ to ∷ [])
 under-put to old new tos changed under =
     All-push (λ t. IsUnder new (full_hash t.text) t.number) tos to
     (λ k d low. put-keeps (full_hash to.text) to.number old new changed (full_hash (get_or tos k d).text) (get_or tos k d).number (under k d low))
     (put-here (full_hash to.text) to.number old new changed)
 
 -- where a number is taken from a hash, Tos with lesser numbers stand where they stood
-pub under-taken : (hash number : ℕ) (old new : Option (List (ℕ × ℕ))) (tos : List To) → IsChanged hash number false old new → All (λ to. to.number < number) tos → AreUnder old tos → AreUnder new tos
+pub under-taken : (hash number : ℕ) (old new : Option Sets) (tos : List To) → IsChanged hash number false old new → All (λ to. to.number < number) tos → AreUnder old tos → AreUnder new tos
 under-taken hash number old None tos changed lower under = λ k d low. tt
 under-taken hash number None (Some new) tos changed lower under = absurd changed
 under-taken hash number (Some old) (Some new) tos changed lower under = λ k d low.
@@ -133,9 +134,9 @@ under-taken hash number (Some old) (Some new) tos changed lower under = λ k d l
     grind (arith, nat_tests, changed (full_hash (get_or tos k d).text) (get_or tos k d).number, ne_eqb, and-false)
 
 -- where no hashes are kept, nothing is claimed of them
-pub none-under : (hashes : Option (List (ℕ × ℕ))) (tos : List To) → is_some hashes ≡ false → AreUnder hashes tos
+pub none-under : (hashes : Option Sets) (tos : List To) → is_some hashes ≡ false → AreUnder hashes tos
 none-under None tos none = λ k d low. tt
-none-under (Some pairs) tos none = absurd (true≢false none)
+none-under (Some sets) tos none = absurd (true≢false none)
 
 -- where the values that f gives rise along a list, the list of these values rises
 pub AllPairs-map : {X : Type 0} (f : X → ℕ) (xs : List X) → AllPairs (λ a b. f a < f b) xs → AllPairs (λ a b. a < b) (map f xs)
@@ -166,14 +167,14 @@ module _ (texts : Texts) (tos : List To) (low high : ℕ) (book : IsBook texts) 
       (i, rw length-map at within, sym (get_or-map (λ to. to.number) tos i nobody number (rw length-map at within)) ∙ at)
 
   -- what is told of the messages of the list is told of the kept messages
-  pub stand_told : {V : Type 0} (pairs : V → List (ℕ × ℕ)) (r : Option V) → IfSome r (λ hashes. AreUnder (Some (pairs hashes)) tos) →
-      IfSome r (λ hashes. StandUnder texts low high (pairs hashes))
-  stand_told pairs None under = tt
-  stand_told pairs (Some hashes) under = λ number text kept from to is.
+  pub stand_told : {V : Type 0} (sets : V → Sets) (r : Option V) → IfSome r (λ hashes. AreUnder (Some (sets hashes)) tos) →
+      IfSome r (λ hashes. StandUnder texts low high (sets hashes))
+  stand_told sets None under = tt
+  stand_told sets (Some hashes) under = λ number text kept from to is.
       let (i, within, at) = beside number kept from to in
       let there = get_or tos i nobody in
       -- the To that stands there is the message's one To, and stands under its hash
       let its = All-get_or (IsTo texts) tos i nobody within are.each in
       let same = IsToOf-one (text_of texts number) text there.text (subst (λ n. IsToOf (text_of texts n) there.text) at its.text) is in
-      let stands = All-get_or (λ to. IsUnder (Some (pairs hashes)) (full_hash to.text) to.number) tos i nobody within under in
-      subst (λ words. holds (pairs hashes) (full_hash words) number ≡ true) same (subst (λ n. holds (pairs hashes) (full_hash there.text) n ≡ true) at stands)
+      let under_its = All-get_or (λ to. IsUnder (Some (sets hashes)) (full_hash to.text) to.number) tos i nobody within under in
+      subst (λ words. stands (sets hashes) (full_hash words) number ≡ true) same (subst (λ n. stands (sets hashes) (full_hash there.text) n ≡ true) at under_its)

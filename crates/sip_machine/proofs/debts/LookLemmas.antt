@@ -1,7 +1,7 @@
 -- How a debt is looked for: among the first debts, one by one, and among the messages with a To. P holds of debts, of which a send at t pays one.
 -- In the lemmas t is the moment of a send, n how many debts are looked at, and xs and ys are the first debts and the others.
 use Prim.Native.Nat.{suc, zero}
-use Rattle.std.specs.Prelude.{◌≡◌, ◌<◌, ◌≤◌, ◌+◌, ◌↔◌, ◌++◌, ℕ, Bool, true, false, IsTrue, Option, Some, None, List, [], ◌∷◌, All, drop, get_or, is_some, length, slice_get, take}
+use Rattle.std.specs.Prelude.{◌≡◌, ◌==◌, ◌<◌, ◌≤◌, ◌+◌, ◌↔◌, ◌++◌, ℕ, Bool, true, false, IsTrue, Option, Some, None, List, [], ◌∷◌, All, drop, get_or, is_some, length, slice_get, take}
 use Rattle.std.proofs.Common.{refl, sym, ◌∙◌, ap, subst, inl, inr, arith, cond, true≢false}
 use Rattle.std.proofs.lemmas.Bool.{cases_eq, false_from_ne_true, ne_eqb}
 use Rattle.std.proofs.lemmas.Bool.Decides.{nat_tests}
@@ -10,17 +10,16 @@ use Rattle.std.proofs.lemmas.List.Elements.{All-cons, All-head, All-more, All-ni
 use Rattle.std.proofs.lemmas.Option.{get_or_from_slice_get}
 use Rattle.sip_ledger.specs.declared.debt.Debt.{Debt}
 use Rattle.sip_ledger.specs.Debts.{IsFirstPaid, PaysSome, is_payable, paid_by}
-use Rattle.sip_ledger.specs.Indexes.{holds}
-use Rattle.sip_ledger.proofs.lists.IndexLemmas.{none-held}
+use Rattle.sip_numbers.specs.Numbers.{numbers_of}
+use Rattle.sip_numbers.specs.declared.numbers.Word.{Word}
 use Rattle.sip_ledger.specs.Accounts.{AppendsOwed}
 use Rattle.sip_machine.specs.Texts.{Texts, text_of}
 use Rattle.sip_standard.specs.Debts.{IsWithoutFirst}
 use Rattle.sip_machine.specs.inner.Acks.{HasTo}
 use Rattle.sip_machine.specs.inner.Paying.{FindsFirst}
-use Rattle.sip_machine.specs.inner.Tos.{IsChanged, IsToOf}
+use Rattle.sip_machine.specs.inner.Tos.{IsToOf}
 use Rattle.sip_phases.proofs.debts.OwesLaws.{All-names}
 use Rattle.sip_machine.proofs.acks.HolderLemmas.{FindsFirst-same}
-use Rattle.sip_machine.proofs.acks.ToLemmas.{put-here, put-keeps}
 use Rattle.sip_machine.proofs.debts.NamesLemmas.{all-owed}
 
 -- a debt of no message
@@ -139,55 +138,58 @@ none-of-all P t n debts None is few none =
 pub pays-to : (texts : Texts) (to : List ℕ) (t message : ℕ) → IsToOf (text_of texts message) to → (debt : Debt) → IsTrue (is_payable message t debt) → HasTo texts to t debt
 pays-to texts to t message its debt pays = grind (arith, payable-parts)
 
--- What follows is of the numbers that stand under 0 in `pairs`, and of the messages with a To.
+-- What follows is of sets of numbers, and of the messages with a To.
 module _ (texts : Texts) (to : List ℕ) where
-  -- each number under 0 is of a message with the To, and of these names each whose message has it stands there
-  pub record AreWith (pairs : List (ℕ × ℕ)) (names : List ℕ) : Type 0 where
-    pub only : (n : ℕ) → holds pairs 0 n ≡ true → IsToOf (text_of texts n) to
-    pub each : All (λ n. IsToOf (text_of texts n) to → holds pairs 0 n ≡ true) names
+  -- each number of the set is of a message with the To, and of these names each whose message has it is in the set
+  pub record AreWith (set : List Word) (names : List ℕ) : Type 0 where
+    pub only : (n : ℕ) → numbers_of set n ≡ true → IsToOf (text_of texts n) to
+    pub each : All (λ n. IsToOf (text_of texts n) to → numbers_of set n ≡ true) names
 
-  -- no number stands there, of no names
-  pub with-none : (pairs : List (ℕ × ℕ)) → pairs ≡ [] → AreWith pairs []
-  with-none pairs none = record {
-    only = λ n is. absurd (none-held pairs (λ some. let long = ap length none in omega (arith, some, long)) 0 n is);
-    each = All-nil (λ n. IsToOf (text_of texts n) to → holds pairs 0 n ≡ true);
+  -- no number is in the set, of no names
+  pub with-none : (set : List Word) → ((n : ℕ) → numbers_of set n ≡ false) → AreWith set []
+  with-none set none = record {
+    only = λ n is. absurd (true≢false (sym is ∙ none n));
+    each = All-nil (λ n. IsToOf (text_of texts n) to → numbers_of set n ≡ true);
   }
 
   -- one name more, whose message has another To
-  pub with-other : (pairs : List (ℕ × ℕ)) (names : List ℕ) (at n : ℕ) → AreWith pairs (take at names) → at < length names → ¬ (IsToOf (text_of texts (get_or names at n)) to) →
-      AreWith pairs (take (at + 1) names)
-  with-other pairs names at n are low other = record {
+  pub with-other : (set : List Word) (names : List ℕ) (at n : ℕ) → AreWith set (take at names) → at < length names → ¬ (IsToOf (text_of texts (get_or names at n)) to) →
+      AreWith set (take (at + 1) names)
+  with-other set names at n are low other = record {
     only = are.only;
-    each = All-more (λ n. IsToOf (text_of texts n) to → holds pairs 0 n ≡ true) names at n low are.each (λ its. absurd (other its));
+    each = All-more (λ n. IsToOf (text_of texts n) to → numbers_of set n ≡ true) names at n low are.each (λ its. absurd (other its));
   }
 
-  -- one name more, whose message has the To, and which is put there
-  pub with-one : (old new : List (ℕ × ℕ)) (names : List ℕ) (at n : ℕ) → AreWith old (take at names) → at < length names → IsToOf (text_of texts (get_or names at n)) to →
-      IsChanged 0 (get_or names at n) true (Some old) (Some new) → AreWith new (take (at + 1) names)
+  -- one name more, whose message has the To, and which is put into the set
+  pub with-one : (old new : List Word) (names : List ℕ) (at n : ℕ) → AreWith old (take at names) → at < length names → IsToOf (text_of texts (get_or names at n)) to →
+      ((m : ℕ) → numbers_of new m ≡ cond (m == get_or names at n) true (numbers_of old m)) → AreWith new (take (at + 1) names)
   with-one old new names at n are low its changed =
       let name = get_or names at n in
-      let Old : ℕ → Type 0 = λ m. IsToOf (text_of texts m) to → holds old 0 m ≡ true in
-      let New : ℕ → Type 0 = λ m. IsToOf (text_of texts m) to → holds new 0 m ≡ true in
-      let kept = All-weaker Old New (λ m was has. put-keeps 0 name (Some old) (Some new) changed 0 m (was has)) (take at names) are.each in
+      let Old : ℕ → Type 0 = λ m. IsToOf (text_of texts m) to → numbers_of old m ≡ true in
+      let New : ℕ → Type 0 = λ m. IsToOf (text_of texts m) to → numbers_of new m ≡ true in
+      -- what was in the set is there, and the name too
+      let stays : (m : ℕ) → numbers_of old m ≡ true → numbers_of new m ≡ true = λ m was. grind (arith, nat_tests, changed m) in
+      let here : numbers_of new name ≡ true = grind (arith, nat_tests, changed name) in
+      let kept = All-weaker Old New (λ m was has. stays m (was has)) (take at names) are.each in
       record {
-        -- what stands there now is the name, or stood there
+        -- what is in the set now is the name, or was there
         only = λ m is. elim (cases_eq m name) [
           | inl same ↦ subst (λ k. IsToOf (text_of texts k) to) (sym same) its
-          | inr other ↦ are.only m (sym (changed 0 m ∙ ap (λ b. cond b true (holds old 0 m)) (ne_eqb m name other)) ∙ is)
+          | inr other ↦ are.only m (sym (changed m ∙ ap (λ b. cond b true (numbers_of old m)) (ne_eqb m name other)) ∙ is)
         ];
-        each = All-more New names at n low kept (λ _. put-here 0 name (Some old) (Some new) changed);
+        each = All-more New names at n low kept (λ _. here);
       }
 
--- where of the messages that are owed those with the To stand under 0, what is found under 0 is found with the To
-pub first-named : (texts : Texts) (to : List ℕ) (t : ℕ) (debts : List Debt) (old names : List ℕ) (pairs : List (ℕ × ℕ)) (message : Option ℕ) → old ≡ [] → AppendsOwed (debts ∷ []) old names →
-    All (λ n. (holds pairs 0 n ≡ true) ↔ IsToOf (text_of texts n) to) names → IsFirstPaid (PaysSome (holds pairs 0) t) t debts message → FindsFirst (HasTo texts to t) t debts message
-first-named texts to t debts old names pairs message none owed stand first =
-    let Stands : ℕ → Type 0 = λ n. (holds pairs 0 n ≡ true) ↔ IsToOf (text_of texts n) to in
-    FindsFirst-same (PaysSome (holds pairs 0) t) (HasTo texts to t) t debts message (λ k d within.
-    let here = All-names Stands debts (all-owed Stands debts old names none owed stand) k d within in
+-- where of the messages that are owed those with the To pass a test, what is found by the test is found with the To
+pub first-named : (texts : Texts) (to : List ℕ) (t : ℕ) (debts : List Debt) (old names : List ℕ) (test : ℕ → Bool) (message : Option ℕ) → old ≡ [] → AppendsOwed (debts ∷ []) old names →
+    All (λ n. IsTrue (test n) ↔ IsToOf (text_of texts n) to) names → IsFirstPaid (PaysSome test t) t debts message → FindsFirst (HasTo texts to t) t debts message
+first-named texts to t debts old names test message none owed pass first =
+    let Passes : ℕ → Type 0 = λ n. IsTrue (test n) ↔ IsToOf (text_of texts n) to in
+    FindsFirst-same (PaysSome test t) (HasTo texts to t) t debts message (λ k d within.
+    let here = All-names Passes debts (all-owed Passes debts old names none owed pass) k d within in
     (λ pays. (here.0 pays.0, pays.1), λ has. (here.1 has.0, has.1))) (found message first)
   where
     -- what is found first and paid is found first
-    found : (message : Option ℕ) → IsFirstPaid (PaysSome (holds pairs 0) t) t debts message → FindsFirst (PaysSome (holds pairs 0) t) t debts message
+    found : (message : Option ℕ) → IsFirstPaid (PaysSome test t) t debts message → FindsFirst (PaysSome test t) t debts message
     found None none = none
     found (Some message) first = first.0

@@ -1,7 +1,7 @@
 //! The response to which an ACK belongs: the INVITE and the ACK are read anew, and tell all but the response, which is told by its To alone.
 ghost use Rattle.std.specs.Prelude.{◌≡◌, ◌<◌, ◌↔◌, IfOk, IfSome, IsTrue, All, length};
 ghost use Rattle.sip_ledger.specs.Debts.{IsFirstPaid, PaysSome};
-ghost use Rattle.sip_ledger.specs.Indexes.{holds};
+ghost use Rattle.sip_numbers.specs.Numbers.{numbers_of};
 ghost use Rattle.sip_machine.specs.Owes.{owed_in, owes_names};
 ghost use Rattle.sip_machine.specs.Texts.{Keeps, text_of};
 ghost use Rattle.sip_machine.specs.inner.Acks.{HasTo, PaysDebt};
@@ -13,12 +13,13 @@ use crate::dues::Dues;
 use crate::event::Event;
 use crate::hashed::Hashed;
 use sip_key::{is_ack_for, solid_of};
-use sip_ledger::{Accounts, Debt, Index};
+use sip_ledger::{Accounts, Debt};
+use sip_numbers::Numbers;
 use std::alloc::{AllocError, Global};
 
-/// In how many steps a debt is looked for among the messages under a hash: in so many first, and in the next of these where they do not tell. In between
-/// four times as many of the oldest debts are looked at, which take as long.
-const STEPS: [usize; 6] = [64, 512, 4096, 32_768, 262_144, usize::MAX];
+/// In how many steps a debt is looked for among the messages under a hash: in so many first, and in the next of these where they do not tell. A step
+/// looks at one of them that some row owes. In between eight times as many of the oldest debts are looked at, which take as long.
+const STEPS: [usize; 7] = [16, 128, 1024, 8192, 65_536, 524_288, usize::MAX];
 
 /// The message of the first debt of the row that is a response to the INVITE to which the event's ACK belongs (RFC 3261,
 /// section 17.1.1.3), and whose deadline has not passed; None if there is none.
@@ -91,7 +92,7 @@ fn first_with_to(
         if let Some(found) = first_under(alloc, book, to, moment, accounts, row, most)? {
             return Ok(found);
         }
-        let debts = most.saturating_mul(4);
+        let debts = most.saturating_mul(8);
         if let Some(found) = first_of_oldest(alloc, book, to, moment, accounts, row, debts)? {
             return Ok(found);
         }
@@ -148,7 +149,7 @@ fn first_of(
 }
 
 /// What `first_with_to` finds, where the hash of the To tells it in `most` steps: where all messages that are owed stand under the hashes of
-/// their Tos, and the first of them that stands under this hash has this To. Steps that do not tell it are counted.
+/// their Tos, and the first of them that stands under this hash has this To.
 fn first_under(
     alloc: Global,
     book: &Book,
@@ -167,8 +168,11 @@ fn first_under(
     let Some(hashes) = book.hashes(low, high) else {
         return Ok(None);
     };
-    let Some(first) = accounts.first_payable(row, hashes, to.hash(), moment, most) else {
-        book.count_steps(most);
+    // No message stands under the hash, and so none has the To.
+    let Some(messages) = hashes.get(to.hash()) else {
+        return Ok(Some(None));
+    };
+    let Some(first) = accounts.first_payable(row, messages, moment, most) else {
         return Ok(None);
     };
     // No debt that can still be paid is of a message under the hash, and so none is of one with the To.
@@ -198,25 +202,25 @@ fn first_named(
     let mut messages = Vec::new(alloc);
     accounts.names_once(row, &mut messages)?;
     book.count_messages(messages.len());
-    let index = with_to(alloc, book, to, &messages)?;
-    let Some(found) = accounts.first_payable(row, &index, 0, moment, usize::MAX) else {
+    let those = with_to(alloc, book, to, &messages)?;
+    let Some(found) = accounts.first_payable(row, &those, moment, usize::MAX) else {
         // No memory has room for as many messages as a number can count.
         return Err(AllocError);
     };
     Ok(found)
 }
 
-/// Those of the messages that have this To, under the key 0.
-fn with_to(alloc: Global, book: &Book, to: &Hashed, messages: &[u64]) -> Result<Index, AllocError>
+/// Those of the messages that have this To.
+fn with_to(alloc: Global, book: &Book, to: &Hashed, messages: &[u64]) -> Result<Numbers, AllocError>
     requires { All (Keeps book.now) messages.now }
-    ensures { IfOk result (λ index. All (λ message. IsTrue (holds index 0 message) ↔ IsToOf (text_of book.now message) to.now) messages.now) }
+    ensures { IfOk result (λ those. All (λ message. IsTrue (numbers_of those message) ↔ IsToOf (text_of book.now message) to.now) messages.now) }
 {
-    let mut index = Index::new(alloc);
+    let mut those = Numbers::new(alloc);
     let mut near = 0;
     for message in messages {
         if book.has_to(alloc, *message, to, &mut near)? {
-            index.put(0, *message)?;
+            those.put(*message)?;
         }
     }
-    Ok(index)
+    Ok(those)
 }

@@ -7,8 +7,8 @@ use Rattle.sip_verdict.proofs.surveys.kept.Kept.{surveyed_kept, surveyed_swept}
 use Rattle.sip_verdict.proofs.entries.find_next.Goals as goal
 
 -- where no sweep is due yet, what was found at the entry is right, and the book has few enough messages
-pub returns-then-not-is_slow-clause-found : goal.returns-then-not-is_slow-clause-found
-returns-then-not-is_slow-clause-found g c = λ es surveyed counts late.
+pub returns-then-kept-left-clause-found : goal.returns-then-kept-left-clause-found
+returns-then-kept-left-clause-found g c = λ es surveyed counts late.
     let s = c.args.standing.now in
     let mid = c.find.new.standing in
     let left = c.args.left.now in
@@ -19,8 +19,8 @@ returns-then-not-is_slow-clause-found g c = λ es surveyed counts late.
     (e, here, seen, found, added, surveyed_kept s.book mid.book s.tables mid.tables c.args.troubled.now.deaf.items c.find.new.troubled.deaf.items left es e c.in_ok-find.ensures.times surveyed few tracks)
 
 -- after an entry without keys the book has no message that is new
-pub returns-then-not-is_slow-clause-keyless : goal.returns-then-not-is_slow-clause-keyless
-returns-then-not-is_slow-clause-keyless g c none = same_within c.args.standing.now.book c.find.new.standing.book (c.in_ok-find.ensures.keyless none)
+pub returns-then-kept-left-clause-keyless : goal.returns-then-kept-left-clause-keyless
+returns-then-kept-left-clause-keyless g c none = same_within c.args.standing.now.book c.find.new.standing.book (c.in_ok-find.ensures.keyless none)
 
 -- after the sweep the next entry may come
 pub returns-clause-may : goal.returns-clause-may

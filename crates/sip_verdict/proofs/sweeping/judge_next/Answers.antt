@@ -1,5 +1,5 @@
 -- s is what stands before the entry e, `mid` after it, and `new` after the sweep; `swept` is what the sweep promises. `left` is how many messages the
--- book kept after the last sweep; the next one is due where it has more than twice as many and 64, or where it is slow to search.
+-- book kept after the last sweep; the next one is due where it has more than twice as many and 64.
 use Rattle.std.proofs.Common.{◌≤◌, ◌+◌, Contains, length, arith}
 use Rattle.std.proofs.lemmas.List.Elements.{All-contains, All-weaker}
 use Rattle.sip_log.specs.Told.{item}
@@ -8,8 +8,8 @@ use Rattle.sip_verdict.proofs.sweeps.SweptBook.{within_keeps}
 use Rattle.sip_verdict.proofs.sweeping.judge_next.Goals as goal
 
 -- where no sweep is due yet, the judge follows the entries as it did, and the book has few enough messages
-pub returns-then-not-is_slow-clause-judged : goal.returns-then-not-is_slow-clause-judged
-returns-then-not-is_slow-clause-judged g c =
+pub returns-then-kept-left-clause-judged : goal.returns-then-kept-left-clause-judged
+returns-then-kept-left-clause-judged g c =
     let s = c.args.standing.now in
     let mid = c.judge.new.self in
     let e = c.args.entry.now in

@@ -1,0 +1,93 @@
+//! Sets of numbers, beside plain lists of them.
+use crate::chance::Chance;
+use crate::wants::{Done, holds, holds_of};
+use sip_numbers::Numbers;
+use std::alloc::Global;
+use std::process::Abort;
+use std::test::Fail;
+
+/// Numbers about the ends of the words of 64, and the last ones.
+const ENDS: [u64; 14] = [
+    0,
+    1,
+    62,
+    63,
+    64,
+    65,
+    127,
+    128,
+    191,
+    192,
+    6400,
+    u64::MAX - 64,
+    u64::MAX - 63,
+    u64::MAX,
+];
+
+/// The set of these numbers.
+fn set_of(alloc: Global, numbers: &[u64]) -> Result<Numbers, Fail> {
+    let mut set = Numbers::new(alloc);
+    for number in numbers {
+        set.put(*number)?;
+    }
+    Ok(set)
+}
+
+/// The first number from `from` on that is in both sets is that of the lists: they need not be in order.
+fn meets(rt: &impl Abort, sets: (&Numbers, &Numbers), lists: (&[u64], &[u64]), from: u64) {
+    let both = lists
+        .0
+        .iter()
+        .copied()
+        .filter(|number| lists.1.contains(number));
+    let want = both.filter(|number| from <= *number).min();
+    holds_of(
+        rt,
+        sets.0.next_in_both(sets.1, from) == want,
+        "next in both",
+        from as usize,
+    );
+}
+
+/// Two sets meet in the numbers that were put into both and not taken out of one, whichever side is asked, and from wherever on.
+#[test]
+fn sets_meet_where_lists_do(rt: HostRuntime) -> Done {
+    let (mut one, mut other) = (set_of(rt.alloc(), &[])?, set_of(rt.alloc(), &[])?);
+    let (mut ones, mut others) = (Vec::new(rt.alloc()), Vec::new(rt.alloc()));
+    let mut chance = Chance::new(11);
+    for _ in 0..300 {
+        let number = ENDS[chance.below(14) as usize % 14];
+        let (set, list) = if chance.below(2) == 0 {
+            (&mut one, &mut ones)
+        } else {
+            (&mut other, &mut others)
+        };
+        if chance.below(3) == 0 {
+            set.take(number);
+            list.retain(|it: &u64| *it != number);
+        } else {
+            set.put(number)?;
+            list.push(number)?;
+        }
+        for from in ENDS {
+            meets(&rt, (&one, &other), (&ones, &others), from);
+            meets(&rt, (&other, &one), (&others, &ones), from);
+        }
+    }
+    Ok(())
+}
+
+/// Sets of numbers that lie far apart meet in few of them: no word is passed over, and none is told twice.
+#[test]
+fn sets_meet_once_in_each_number(rt: HostRuntime) -> Done {
+    let alloc = rt.alloc();
+    let sevens = set_of(alloc, &[7, 70, 700, 7000, 70_000])?;
+    let tens = set_of(alloc, &[10, 70, 100, 700, 1000, 7000, 70_001])?;
+    let mut from = 0;
+    for want in [Some(70), Some(700), Some(7000), None] {
+        let found = sevens.next_in_both(&tens, from);
+        holds(&rt, found == want, "the next one");
+        from = want.unwrap_or(0).saturating_add(1);
+    }
+    Ok(())
+}

@@ -1,0 +1,109 @@
+//! The places of what is left of each message.
+ghost use Rattle.std.specs.Prelude.{◌≡◌, ◌==◌, ◌&&◌, ◌<◌, ◌≤◌, ℕ, cond, true, false, [], IfSome, IfNone, OnOk, OnErr};
+ghost use Rattle.sip_ledger.specs.Indexes.{holds, IsFirstFrom, IsNextUnder, NoneFrom};
+ghost use Rattle.sip_numbers.specs.Numbers.{numbers_of};
+ghost use Rattle.sip_ledger.specs.inner.Places.{IsNextLeft, NoneLeft};
+
+use crate::index::Index;
+use sip_numbers::Numbers;
+use std::alloc::{AllocError, Global};
+use std::marker::Model;
+
+/// The places at which gains are left, each under its message; and the set of these messages, and that of these places. Contracts see the pairs of a
+/// message and a place, in order.
+#[derive(Debug, Drop)]
+pub(crate) struct Places {
+    pairs: Index,
+    messages: Numbers,
+    places: Numbers,
+}
+
+impl Model for Places {
+    ghost use Rattle.std.specs.Prelude.{ℕ, List};
+    ghost use Rattle.sip_ledger.specs.inner.Places.{ArePlaces};
+
+    ghost Value = { List (ℕ × ℕ) };
+
+    ghost view = { λ p. p.pairs };
+
+    // Each message and each place of a pair is in its set, and a place stands under one message.
+    ghost invariant = { λ p. ArePlaces p.pairs p.messages p.places };
+}
+
+impl Places {
+    /// No places.
+    pub(crate) fn new(alloc: Global) -> Self
+        ensures { result ≡ [] }
+    {
+        Places {
+            pairs: Index::new(alloc),
+            messages: Numbers::new(alloc),
+            places: Numbers::new(alloc),
+        }
+    }
+
+    /// Puts the place under the message, where it stands under none. On an error all is as before.
+    pub(crate) fn put(&mut self, message: u64, place: u64) -> Result<(), AllocError>
+        requires { (m : ℕ) → holds self.old m place ≡ false }
+        ensures ok { OnOk result ((m k : ℕ) → holds self.new m k ≡ cond (m == message && k == place) true (holds self.old m k)) }
+        ensures err { OnErr result (self.new ≡ self.old) }
+    {
+        self.messages.put(message)?;
+        self.places.put(place)?;
+        self.pairs.put(message, place)
+    }
+
+    /// Takes the place from the message, if it stands there.
+    pub(crate) fn take(&mut self, message: u64, place: u64)
+        ensures { (m k : ℕ) → holds self.new m k ≡ cond (m == message && k == place) false (holds self.old m k) }
+    {
+        if !self.pairs.take(message, place) {
+            return;
+        }
+        self.places.take(place);
+        if self.pairs.next(message, 0).is_none() {
+            self.messages.take(message);
+        }
+    }
+
+    /// The first pair from this message and place on, in the order of messages and then of places.
+    pub(crate) fn first_from(&self, message: u64, place: u64) -> Option<(u64, u64)>
+        ensures found { IfSome result (IsFirstFrom self.now message place) }
+        ensures none { IfNone result (NoneFrom self.now message place) }
+    {
+        self.pairs.first_from(message, place)
+    }
+
+    /// The first place of the message, from this one on.
+    pub(crate) fn next(&self, message: u64, from: u64) -> Option<u64>
+        ensures found { IfSome result (IsNextUnder self.now message from) }
+        ensures none { IfNone result ((k : ℕ) → from ≤ k → holds self.now message k ≡ false) }
+    {
+        self.pairs.next(message, from)
+    }
+
+    /// The first of these messages from this one on of which a place is here. It may tell one of which none is any more, but passes over none of which one is.
+    pub(crate) fn next_among(&self, messages: &Numbers, from: u64) -> Option<u64>
+        ensures found { IfSome result (IsNextLeft self.now (numbers_of messages.now) from) }
+        ensures none { IfNone result (NoneLeft self.now (numbers_of messages.now) from) }
+    {
+        messages.next_in_both(&self.messages, from)
+    }
+
+    /// The first place from this one on that stands under some message. It may tell one that stands under none any more, but passes over none that stands
+    /// under one.
+    pub(crate) fn next_place(&self, from: u64) -> Option<u64>
+        ensures low { IfSome result (λ place. from ≤ place) }
+        ensures before { IfSome result (λ place. (m k : ℕ) → from ≤ k → k < place → holds self.now m k ≡ false) }
+        ensures none { IfNone result ((m k : ℕ) → from ≤ k → holds self.now m k ≡ false) }
+    {
+        self.places.next_in_both(&self.places, from)
+    }
+
+    /// Two messages: the least and the greatest under which places stand, or 0 and 0 where there are no places.
+    pub(crate) fn span(&self) -> (u64, u64)
+        ensures { (m k : ℕ) → holds self.now m k ≡ true → (result.0 ≤ m) × (m ≤ result.1) }
+    {
+        self.pairs.span()
+    }
+}

@@ -1,0 +1,143 @@
+//! Sets of numbers.
+ghost use Rattle.std.specs.Prelude.{◌≡◌, ◌==◌, ◌<◌, ◌≤◌, ◌^◌, ℕ, cond, true, false, IfSome, IfNone, OnOk, OnErr};
+ghost use Rattle.sip_numbers.specs.Numbers.{IsFirstInBoth, NoneInBoth, has_bit, numbers_of};
+ghost use Rattle.sip_numbers.specs.inner.Numbers.{AreWords, IsFirstOf, IsPlaceFor};
+
+use std::alloc::{AllocError, Global};
+use std::marker::Model;
+
+/// Some of 64 numbers in a row, from 64 * `block` on: those whose bits are set.
+#[derive(Clone, Copy, Debug)]
+struct Word {
+    block: u64,
+    bits: u64,
+}
+
+/// A set of numbers, in which 64 numbers in a row stand in one word. Contracts see the words, and ask only whether one of them has a number.
+#[derive(Debug, Drop)]
+pub struct Numbers {
+    words: Vec<Word>,
+}
+
+impl Model for Numbers {
+    ghost use Rattle.std.specs.Prelude.{List};
+    ghost use Rattle.sip_numbers.specs.declared.numbers.Word.{Word};
+
+    // What a set means is its words, of which `numbers_of` tells which numbers are there.
+    ghost Value = { List Word };
+
+    ghost use Rattle.sip_numbers.specs.inner.Numbers.{AreWords};
+
+    ghost view = { λ n. n.words.items };
+
+    // The words are in order, one for each block of 64 numbers.
+    ghost invariant = { λ n. AreWords n.words.items };
+}
+
+impl Numbers {
+    /// A set without numbers.
+    pub fn new(alloc: Global) -> Self
+        ensures { (n : ℕ) → numbers_of result n ≡ false }
+    {
+        Numbers {
+            words: Vec::new(alloc),
+        }
+    }
+
+    /// Puts the number in. On an error the set is as before.
+    pub fn put(&mut self, number: u64) -> Result<(), AllocError>
+        ensures ok { OnOk result ((n : ℕ) → numbers_of self.new n ≡ cond (n == number) true (numbers_of self.old n)) }
+        ensures err { OnErr result (self.new ≡ self.old) }
+    {
+        let block = number / 64;
+        let bit = 1 << (number % 64);
+        let at = place_for(&self.words, block);
+        if at < self.words.len() && self.words[at].block == block {
+            self.words[at].bits |= bit;
+            return Ok(());
+        }
+        self.words.insert(at, Word { block, bits: bit })?;
+        Ok(())
+    }
+
+    /// Takes the number out, if it is there.
+    pub fn take(&mut self, number: u64)
+        ensures { (n : ℕ) → numbers_of self.new n ≡ cond (n == number) false (numbers_of self.old n) }
+    {
+        let block = number / 64;
+        let at = place_for(&self.words, block);
+        if at == self.words.len() || self.words[at].block != block {
+            return;
+        }
+        let bits = self.words[at].bits & !(1 << (number % 64));
+        if bits == 0 {
+            let _word = self.words.remove(at);
+        } else {
+            self.words[at].bits = bits;
+        }
+    }
+
+    /// The first number from `from` on that is in both sets.
+    pub fn next_in_both(&self, other: &Numbers, from: u64) -> Option<u64>
+        ensures found { IfSome result (IsFirstInBoth (numbers_of self.now) (numbers_of other.now) from) }
+        ensures none { IfNone result (NoneInBoth (numbers_of self.now) (numbers_of other.now) from) }
+    {
+        let mut at = place_for(&self.words, from / 64);
+        let mut beside = place_for(&other.words, from / 64);
+        while at < self.words.len() && beside < other.words.len() {
+            let word = self.words[at];
+            let its = other.words[beside];
+            if word.block < its.block {
+                at += 1;
+            } else if its.block < word.block {
+                beside += 1;
+            } else {
+                let both = Word {
+                    block: word.block,
+                    bits: word.bits & its.bits,
+                };
+                if let Some(number) = first_from(both, from) {
+                    return Some(number);
+                }
+                at += 1;
+                beside += 1;
+            }
+        }
+        None
+    }
+}
+
+/// The place of the first word of this block or a greater one, or how many words there are. Mostly the last word is asked for.
+fn place_for(words: &[Word], block: u64) -> usize
+    requires { AreWords words.now }
+    ensures { IsPlaceFor words.now block result }
+{
+    match words.last() {
+        Some(last) if last.block < block => words.len(),
+        Some(last) if last.block == block => words.len() - 1,
+        _ => words.partition_point(|word| word.block < block),
+    }
+}
+
+/// The first number from `from` on that the word has.
+fn first_from(word: Word, from: u64) -> Option<u64>
+    requires { word.block < 2 ^ 58 }
+    ensures found { IfSome result (IsFirstOf word from) }
+    ensures none { IfNone result ((n : ℕ) → from ≤ n → has_bit n word ≡ false) }
+{
+    // Mostly no bit is set.
+    if word.bits == 0 {
+        return None;
+    }
+    let block = from / 64;
+    if word.block < block {
+        return None;
+    }
+    // In the block of `from`, the bits of lesser numbers are left out.
+    let low = if word.block == block { from % 64 } else { 0 };
+    let bits = (word.bits >> low) << low;
+    if bits == 0 {
+        return None;
+    }
+    Some(64 * word.block + u64::from(bits.trailing_zeros()))
+}

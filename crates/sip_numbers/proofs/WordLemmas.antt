@@ -50,32 +50,33 @@ has-changed number n old new value was is told = elim (cases_eq (n / 64) (number
   | inr other ↦ rw (has-other n new (λ e. other (sym e ∙ is)), has-other n old (λ e. other (sym e ∙ was)), ne_eqb n number (λ e. other (ap (λ k. k / 64) e))) refl
 ]
 
--- What follows is of the first number of a word from `from` on. The bits from `low` on are those of its numbers from there on.
-module _ (word : Word) (from low : ℕ) (within : low < 64) (is : low ≡ from - 64 * word.block) where
-  -- the bits of lesser numbers are left out
-  left : ℕ
-  left = shl low (word.bits / 2 ^ low)
+-- the bits of the word without those of lesser numbers than `from`
+abbrev pub bits_from : Word → ℕ → ℕ
+bits_from word from = shl (from - 64 * word.block) (word.bits / 2 ^ (from - 64 * word.block))
 
-  -- whether the word has a number from `from` on is told by the others
-  has-left : (n : ℕ) → from ≤ n → word.block ≡ n / 64 → has_bit n word ≡ test (shl low (word.bits / 2 ^ low)) (n % 64)
+-- What follows is of a word and a number that is not after all numbers of its block.
+module _ (word : Word) (from : ℕ) (within : from - 64 * word.block < 64) where
+  -- these bits tell whether the word has a number from `from` on
+  has-left : (n : ℕ) → from ≤ n → word.block ≡ n / 64 → has_bit n word ≡ test (bits_from word from) (n % 64)
   has-left n after same =
+      let low = from - 64 * word.block in
       let place : low + (n % 64 - low) ≡ n % 64 = omega arith in
-      has-same n word same ∙ subst (λ k. test word.bits k ≡ test (shl low (word.bits / 2 ^ low)) k) place
+      has-same n word same ∙ subst (λ k. test word.bits k ≡ test (bits_from word from) k) place
       (sym (test-shl_high low (n % 64 - low) (word.bits / 2 ^ low) (omega arith) ∙ test-shr word.bits low (n % 64 - low)))
 
   -- where none of them is set, the word has no number from `from` on
-  pub none-from : shl low (word.bits / 2 ^ low) ≡ 0 → (n : ℕ) → from ≤ n → has_bit n word ≡ false
+  pub none-from : bits_from word from ≡ 0 → (n : ℕ) → from ≤ n → has_bit n word ≡ false
   none-from none n after = elim (cases_eq word.block (n / 64)) [
-    | inl same ↦ has-left n after same ∙ none-set (shl low (word.bits / 2 ^ low)) (n % 64) none
+    | inl same ↦ has-left n after same ∙ none-set (bits_from word from) (n % 64) none
     | inr other ↦ has-other n word other
   ]
 
   -- the lowest of them that is set is that of the first number
-  pub first-of : shl low (word.bits / 2 ^ low) ≢ 0 → IsFirstOf word from (64 * word.block + trailing_zeros w64 (shl low (word.bits / 2 ^ low)))
-  first-of some =
-      let bits = shl low (word.bits / 2 ^ low) in
-      let place = trailing_zeros w64 bits in
-      let found = lowest-set bits (omega (arith, some)) (omega arith) in
+  pub first-of : {place : ℕ} → bits_from word from ≢ 0 → place ≡ trailing_zeros w64 (bits_from word from) → IsFirstOf word from (64 * word.block + place)
+  first-of {place} some place_is =
+      let bits = bits_from word from in
+      let low = from - 64 * word.block in
+      let found = rw (← place_is) at (lowest-set bits (omega (arith, some)) (omega arith)) in
       let from_low : low ≤ place = elim (cases_lt place low) [
         | inl less ↦ absurd (false≢true (sym (test-shl_low low place (word.bits / 2 ^ low) less found.0) ∙ found.1))
         | inr more ↦ more
@@ -90,3 +91,6 @@ module _ (word : Word) (from low : ℕ) (within : low < 64) (is : low ≡ from -
           | inr other ↦ has-other n word other
         ];
       }
+
+-- what tells that a word has no number from one on
+pub ruleset none = (has-none, none-from)

@@ -45,6 +45,7 @@ impl Numbers {
     }
 
     /// Puts the number in. On an error the set is as before.
+    #[tactic(auto, using(crate::proofs::PlaceLemmas::changes))]
     pub fn put(&mut self, number: u64) -> Result<(), AllocError>
         ensures ok { OnOk result ((n : ℕ) → numbers_of self.new n ≡ cond (n == number) true (numbers_of self.old n)) }
         ensures err { OnErr result (self.new ≡ self.old) }
@@ -61,6 +62,7 @@ impl Numbers {
     }
 
     /// Takes the number out, if it is there.
+    #[tactic(auto, using(crate::proofs::PlaceLemmas::changes))]
     pub fn take(&mut self, number: u64)
         ensures { (n : ℕ) → numbers_of self.new n ≡ cond (n == number) false (numbers_of self.old n) }
     {
@@ -76,6 +78,7 @@ impl Numbers {
     }
 
     /// The first number from `from` on that is in both sets.
+    #[tactic(auto, using(crate::proofs::BothLemmas::turns))]
     pub fn next_in_both(&self, other: &Numbers, from: u64) -> Option<u64>
         ensures found { IfSome result (IsFirstInBoth (numbers_of self.now) (numbers_of other.now) from) }
         ensures none { IfNone result (NoneInBoth (numbers_of self.now) (numbers_of other.now) from) }
@@ -118,6 +121,7 @@ fn place_for(words: &[Word], block: u64) -> Result<usize, usize>
 }
 
 /// The first number from `from` on that the word has.
+#[tactic(auto, using(crate::proofs::WordLemmas::none))]
 fn first_from(word: Word, from: u64) -> Option<u64>
     requires { word.block < 2 ^ 58 }
     ensures found { IfSome result (IsFirstOf word from) }

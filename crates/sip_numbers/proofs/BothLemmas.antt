@@ -34,7 +34,8 @@ both_of word its = record { block = word.block; bits = bit_and word.bits its.bit
 
 -- they are those that one has and the other has
 has-both : (n : ℕ) (word its : Word) → word.block ≡ its.block → has_bit n (both_of word its) ≡ (has_bit n word && has_bit n its)
-has-both n word its blocks = rw (← blocks, test-and word.bits its.bits (n % 64)) (twice (word.block == n / 64) (test word.bits (n % 64)) (test its.bits (n % 64)))
+has-both n word its blocks =
+    rw (← blocks, test-and word.bits its.bits (n % 64)) (twice (word.block == n / 64) (test word.bits (n % 64)) (test its.bits (n % 64)))
   where
     -- a test may be made once or twice
     twice : (a b c : Bool) → (a && (b && c)) ≡ ((a && b) && (a && c))

@@ -82,8 +82,8 @@ module _ (number : ℕ) {words : List Word} {at next : ℕ} (place : IsPlaceFor 
       ∙ ap (λ b. numbers_of (take at words) n || b) (list_any-append (has_bit n) some (drop next words))
 
   -- where the words at the place change in the number alone, all words do
-  pub changed : (value : Bool) (old new : List Word) → take at words ++ (old ++ drop next words) ≡ words → Changes number value (numbers_of old) (numbers_of new) →
-      Changes number value (numbers_of words) (numbers_of (take at words ++ (new ++ drop next words)))
+  pub changed : (value : Bool) (old new : List Word) → take at words ++ (old ++ drop next words) ≡ words →
+      Changes number value (numbers_of old) (numbers_of new) → Changes number value (numbers_of words) (numbers_of (take at words ++ (new ++ drop next words)))
   changed value old new split told n = parts new n ∙ elim (cases_eq n number) [
     | inl is ↦ rw (told n, is, eq-eqb number number refl, front, back) (or-false value)
     | inr other ↦ rw (told n, ne_eqb n number other) (sym (parts old n) ∙ ap (λ ws. numbers_of ws n) split)
@@ -92,13 +92,15 @@ module _ (number : ℕ) {words : List Word} {at next : ℕ} (place : IsPlaceFor 
 -- What follows is where no word is of the block.
 module _ (number : ℕ) {words : List Word} {at : ℕ} (place : IsPlaceFor words (number / 64) at at) where
   -- with a word of the bit of the number alone, the number is there besides
-  pub put-new : Changes number true (numbers_of words) (numbers_of (insert words at record { block = number / 64; bits = 1 * 2 ^ (number % 64) % 18446744073709551616 }))
+  pub put-new : Changes number true (numbers_of words)
+      (numbers_of (insert words at record { block = number / 64; bits = 1 * 2 ^ (number % 64) % 18446744073709551616 }))
   unfolding numbers_of
   put-new =
       let new : Word = record { block = number / 64; bits = 1 * 2 ^ (number % 64) % 18446744073709551616 } in
       let none : Word = record { block = number / 64; bits = 0 } in
       changed number place true [] (new ∷ []) (take-append-drop at words) (λ n. simp or-false
-      (has-changed number n none new true refl refl (λ i below. test-put 0 (number % 64) i (omega arith)) ∙ ap (cond (n == number) true) (has-none n none refl)))
+      (has-changed number n none new true refl refl (λ i below. test-put 0 (number % 64) i (omega arith))
+      ∙ ap (cond (n == number) true) (has-none n none refl)))
 
   -- the number is not there
   pub take-none : Changes number false (numbers_of words) (numbers_of words)
@@ -118,19 +120,22 @@ module _ (number : ℕ) {words : List Word} {at : ℕ} (place : IsPlaceFor words
   split = rw (sym (drop_more words at word (omega (arith, place.within)) ∙ ap (λ w. w ∷ drop (at + 1) words) (sym read))) (take-append-drop at words)
 
   -- with these bits, the number is there or not, and all others are as they were
-  pub written : (other : Word) → other ≡ get_or words at other → Changes number value (numbers_of words) (numbers_of (set words at record { block = other.block; bits = bits }))
+  pub written : (other : Word) → other ≡ get_or words at other →
+      Changes number value (numbers_of words) (numbers_of (set words at record { block = other.block; bits = bits }))
   unfolding numbers_of
   written other its n =
       let new : Word = record { block = other.block; bits = bits } in
       ap (λ ws. numbers_of ws n) (set_split words at new (omega (arith, place.within)))
-      ∙ rw (← add-one) (changed number place value (word ∷ []) (new ∷ []) split (λ n. simp or-false (has-changed number n word new value (block read) (block its) told)) n)
+      ∙ rw (← add-one) (changed number place value (word ∷ []) (new ∷ []) split (λ n. simp or-false
+      (has-changed number n word new value (block read) (block its) told)) n)
 
   -- likewise without the word, where none of these bits is set
   pub removed : bits ≡ 0 → Changes number value (numbers_of words) (numbers_of (remove words at))
   unfolding numbers_of
   removed none n =
       let new : Word = record { block = word.block; bits = bits } in
-      rw (← add-one) (changed number place value (word ∷ []) [] split (λ n. simp or-false (sym (has-none n new none) ∙ has-changed number n word new value (block read) (block read) told)) n)
+      rw (← add-one) (changed number place value (word ∷ []) [] split (λ n. simp or-false
+      (sym (has-none n new none) ∙ has-changed number n word new value (block read) (block read) told)) n)
 
 -- what the words tell after each change
 pub ruleset changes = (put-new, written, removed, test-put, test-taken)

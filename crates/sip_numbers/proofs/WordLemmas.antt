@@ -33,7 +33,8 @@ test-put bits place i small = elim (cases_eq i place) [
 ]
 
 -- a bit of a word after the bit at `place` is cleared
-pub test-taken : (bits place i : ℕ) → place < 64 → i < 64 → test (bit_and bits (18446744073709551615 - 1 * 2 ^ place % 18446744073709551616)) i ≡ cond (i == place) false (test bits i)
+pub test-taken : (bits place i : ℕ) → place < 64 → i < 64 →
+    test (bit_and bits (18446744073709551615 - 1 * 2 ^ place % 18446744073709551616)) i ≡ cond (i == place) false (test bits i)
 unfolding test
 test-taken bits place i small below = elim (cases_eq i place) [
   | inl is ↦ rw (is, eq-eqb place place refl) (ap (λ b. b == 1) (bit_at_clear_same w64 bits place small))
@@ -47,7 +48,8 @@ has-changed number n old new value was is told = elim (cases_eq (n / 64) (number
   | inl same ↦
       let at : (n % 64 == number % 64) ≡ (n == number) = grind (arith, nat_tests) in
       has-same n new (is ∙ sym same) ∙ told (n % 64) (omega arith) ∙ rw (at, has-same n old (was ∙ sym same)) refl
-  | inr other ↦ rw (has-other n new (λ e. other (sym e ∙ is)), has-other n old (λ e. other (sym e ∙ was)), ne_eqb n number (λ e. other (ap (λ k. k / 64) e))) refl
+  | inr other ↦
+      rw (has-other n new (λ e. other (sym e ∙ is)), has-other n old (λ e. other (sym e ∙ was)), ne_eqb n number (λ e. other (ap (λ k. k / 64) e))) refl
 ]
 
 -- the bits of the word without those of lesser numbers than `from`

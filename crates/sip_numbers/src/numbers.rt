@@ -36,6 +36,7 @@ impl Model for Numbers {
 
 impl Numbers {
     /// A set without numbers.
+    #[tactic(auto, unfolding(crate::specs::Numbers::numbers_of))]
     pub fn new(alloc: Global) -> Self
         ensures { (n : ℕ) → numbers_of result n ≡ false }
     {

@@ -14,7 +14,8 @@ pub returns-in-Some-2 : goal.returns-in-Some-2
 returns-in-Some-2 c =
     let item = c.in-Some.ensures.item in
     let some = item.3.0 in
-    place-of c.args.block c.requires {at = length c.args.words.now - 1} (omega arith) (λ d. subst (λ word. word.block ≡ c.args.block) (item.3.1 d) c.if-last-block-2.true)
+    place-of c.args.block c.requires {at = length c.args.words.now - 1} (omega arith)
+    (λ d. subst (λ word. word.block ≡ c.args.block) (item.3.1 d) c.if-last-block-2.true)
 
 -- the search finds it: each call of the closure answers the block of a word
 pub returns-in_default : goal.returns-in_default

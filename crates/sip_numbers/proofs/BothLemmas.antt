@@ -2,6 +2,7 @@
 use Rattle.std.proofs.Common.{◌≡◌, ℕ, ◌+◌, ◌/◌, ◌%◌, ◌<◌, ◌≤◌, Bool, true, false, ◌==◌, ◌&&◌, ◌⊎◌, List, length, get_or, bit_and, refl, sym, ap, ap₂, ◌∙◌, subst, inl, inr, arith}
 use Rattle.std.specs.List.{AllWithin}
 use Rattle.std.proofs.lemmas.Bool.{cases_eq, cases_lt, eqb-true, false≢true}
+use Rattle.std.proofs.lemmas.Bool.Decides.{nat_tests}
 use Rattle.std.proofs.lemmas.List.{get_or_read}
 use Rattle.std.proofs.lemmas.List.Elements.{AllWithin-more, at_read}
 use Rattle.std.proofs.lemmas.List.Folds.{Any-from_list_any, list_any_at}
@@ -34,13 +35,7 @@ both_of word its = record { block = word.block; bits = bit_and word.bits its.bit
 
 -- they are those that one has and the other has
 has-both : (n : ℕ) (word its : Word) → word.block ≡ its.block → has_bit n (both_of word its) ≡ (has_bit n word && has_bit n its)
-has-both n word its blocks =
-    rw (← blocks, test-and word.bits its.bits (n % 64)) (twice (word.block == n / 64) (test word.bits (n % 64)) (test its.bits (n % 64)))
-  where
-    -- a test may be made once or twice
-    twice : (a b c : Bool) → (a && (b && c)) ≡ ((a && b) && (a && c))
-    twice true b c = refl
-    twice false b c = refl
+has-both n word its blocks = grind (arith, nat_tests, test-and word.bits its.bits (n % 64))
 
 -- the word is not of a greater block than the number, and has it where it is of its block
 abbrev pub Reaches : Word → ℕ → Type 0

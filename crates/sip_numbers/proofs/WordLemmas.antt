@@ -27,30 +27,18 @@ has-none n word none = and_right (word.block == n / 64) (test word.bits (n % 64)
 -- a bit of a word after the bit at `place` is set
 pub test-put : (bits place i : ℕ) → place < 64 → test (bit_or bits (1 * 2 ^ place % 18446744073709551616)) i ≡ cond (i == place) true (test bits i)
 unfolding test
-test-put bits place i small = elim (cases_eq i place) [
-  | inl is ↦ rw (is, eq-eqb place place refl) (ap (λ b. b == 1) (bit_at_set_same w64 bits place small))
-  | inr other ↦ rw (ne_eqb i place other) (ap (λ b. b == 1) (bit_at_set_other w64 bits place small i other))
-]
+test-put bits place i small = grind (arith, nat_tests, bit_at_set_same w64 bits place small, bit_at_set_other w64 bits place small i)
 
 -- a bit of a word after the bit at `place` is cleared
 pub test-taken : (bits place i : ℕ) → place < 64 → i < 64 →
     test (bit_and bits (18446744073709551615 - 1 * 2 ^ place % 18446744073709551616)) i ≡ cond (i == place) false (test bits i)
 unfolding test
-test-taken bits place i small below = elim (cases_eq i place) [
-  | inl is ↦ rw (is, eq-eqb place place refl) (ap (λ b. b == 1) (bit_at_clear_same w64 bits place small))
-  | inr other ↦ rw (ne_eqb i place other) (ap (λ b. b == 1) (bit_at_clear_other w64 bits place small i below other))
-]
+test-taken bits place i small below = grind (arith, nat_tests, bit_at_clear_same w64 bits place small, bit_at_clear_other w64 bits place small i below)
 
 -- where two words are of the block of a number, and their bits differ at most at its place, they tell the same of all other numbers
 pub has-changed : (number n : ℕ) (old new : Word) (value : Bool) → old.block ≡ number / 64 → new.block ≡ number / 64 →
     ((i : ℕ) → i < 64 → test new.bits i ≡ cond (i == number % 64) value (test old.bits i)) → has_bit n new ≡ cond (n == number) value (has_bit n old)
-has-changed number n old new value was is told = elim (cases_eq (n / 64) (number / 64)) [
-  | inl same ↦
-      let at : (n % 64 == number % 64) ≡ (n == number) = grind (arith, nat_tests) in
-      has-same n new (is ∙ sym same) ∙ told (n % 64) (omega arith) ∙ rw (at, has-same n old (was ∙ sym same)) refl
-  | inr other ↦
-      rw (has-other n new (λ e. other (sym e ∙ is)), has-other n old (λ e. other (sym e ∙ was)), ne_eqb n number (λ e. other (ap (λ k. k / 64) e))) refl
-]
+has-changed number n old new value was is told = grind (arith, nat_tests, told (n % 64) (omega arith))
 
 -- the bits of the word without those of lesser numbers than `from`
 abbrev pub bits_from : Word → ℕ → ℕ

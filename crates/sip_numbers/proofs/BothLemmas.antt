@@ -1,12 +1,11 @@
 -- Numbers that two sets both have.
-use Rattle.std.proofs.Common.{◌≡◌, ℕ, ◌+◌, ◌/◌, ◌%◌, ◌<◌, ◌≤◌, Bool, true, false, ◌==◌, ◌&&◌, ◌⊎◌, List, length, get_or, bit_and, refl, sym, ap, ap₂, ◌∙◌, subst, inl, inr, arith}
+use Rattle.std.proofs.Common.{◌≡◌, ℕ, ◌+◌, ◌/◌, ◌%◌, ◌<◌, ◌≤◌, true, false, ◌&&◌, ◌⊎◌, List, length, get_or, bit_and, sym, ap, ap₂, ◌∙◌, subst, inl, inr, arith}
 use Rattle.std.specs.List.{AllWithin}
-use Rattle.std.proofs.lemmas.Bool.{cases_eq, cases_lt, eqb-true, false≢true}
+use Rattle.std.proofs.lemmas.Bool.{cases_eq, cases_lt, false≢true}
 use Rattle.std.proofs.lemmas.Bool.Decides.{nat_tests}
 use Rattle.std.proofs.lemmas.List.{get_or_read}
 use Rattle.std.proofs.lemmas.List.Elements.{AllWithin-more, at_read}
 use Rattle.std.proofs.lemmas.List.Folds.{Any-from_list_any, list_any_at}
-use Rattle.sip_masks.specs.Bits.{test}
 use Rattle.sip_masks.proofs.BitLemmas.{test-and}
 use Rattle.sip_numbers.specs.Numbers.{IsFirstInBoth, NoneInBoth, has_bit, numbers_of}
 use Rattle.sip_numbers.specs.declared.numbers.Word.{Word}
@@ -20,14 +19,9 @@ IsPast words at n = AllWithin (λ word. word.block < n / 64) words 0 at
 pub record AreLeft (one other : List Word) (from at beside : ℕ) : Type 0 where
   pub all : (n : ℕ) → from ≤ n → numbers_of one n ≡ true → numbers_of other n ≡ true → IsPast one at n × IsPast other beside n
 
--- where both tests pass, each does
-each : (a b : Bool) → (a && b) ≡ true → (a ≡ true) × (b ≡ true)
-each true b is = (refl, is)
-each false b is = absurd (false≢true is)
-
 -- a word that has the number is of its block
 has-block : (n : ℕ) (word : Word) → has_bit n word ≡ true → word.block ≡ n / 64
-has-block n word has = eqb-true word.block (n / 64) (each (word.block == n / 64) (test word.bits (n % 64)) has).0
+has-block n word has = grind (arith, nat_tests)
 
 -- the numbers that two words of a block both have
 abbrev pub both_of : Word → Word → Word
@@ -134,7 +128,7 @@ module _ {one other : List Word} {from at beside : ℕ} {word its : Word} (in_on
       IsFirstInBoth (numbers_of one) (numbers_of other) from number
   unfolding numbers_of
   first-both {number} blocks first =
-      let has = each (has_bit number word) (has_bit number its) (sym (has-both number word its blocks) ∙ first.is) in
+      let has : (has_bit number word ≡ true) × (has_bit number its ≡ true) = grind (arith, nat_tests, has-both number word its blocks, first.is) in
       let block = has-block number word has.0 in
       record {
         in_one = list_any_at (has_bit number) one at word within (ap (has_bit number) (sym is) ∙ has.0);

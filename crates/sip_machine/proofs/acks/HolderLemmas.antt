@@ -12,7 +12,8 @@ FindsFirst-same P Q t debts None same none = λ k d low holds. none k d low ((sa
 FindsFirst-same P Q t debts (Some message) same first = IsWithoutFirst-alike P Q debts (paid_by message t debts) same first
 
 -- what is so of the message of each debt of which P holds is so of the message that is found
-pub found-is : (P : Debt → Type 0) (Q : ℕ → Type 0) (t : ℕ) (debts : List Debt) (found : Option ℕ) → All (λ d. P d → Q d.message) debts → IsFirstPaid P t debts found → IfSome found Q
+pub found-is : (P : Debt → Type 0) (Q : ℕ → Type 0) (t : ℕ) (debts : List Debt) (found : Option ℕ) →
+    All (λ d. P d → Q d.message) debts → IsFirstPaid P t debts found → IfSome found Q
 found-is P Q t debts None all none = tt
 found-is P Q t debts (Some message) all (one, same) =
     let W : Debt → Type 0 = λ d. P d → Q d.message in
@@ -37,13 +38,14 @@ module _ (texts : Texts) (to : List ℕ) (t : ℕ) where
         whole = one.whole;
         holds = (subst (λ n. IsToOf (text_of texts n) to) (sym same) its, one.holds.1);
         -- none before it has the To, since all with the To are in the set
-        none_before = λ k d within has. one.none_before k d within (All-front W one.before (one.first ∷ one.after) (subst (All W) one.whole passes) k d within has);
+        none_before = λ k d within has. one.none_before k d within
+            (All-front W one.before (one.first ∷ one.after) (subst (All W) one.whole passes) k d within has);
         rest = one.rest;
       }
 
   -- a set that has all kept messages with the To and with numbers between which those lie that rows owe has those that a row owes
-  pub in-set : (low high : ℕ) (rows : List (List Debt)) (row : ℕ) (set : List Word) → row < length rows → All (AreBetween low high) rows → All (Keeps texts) (owes_names (owed_in rows row)) →
-      HasAll texts low high to set → All (λ d. Has d → PaysSome (numbers_of set) t d) (owed_in rows row)
+  pub in-set : (low high : ℕ) (rows : List (List Debt)) (row : ℕ) (set : List Word) → row < length rows → All (AreBetween low high) rows →
+      All (Keeps texts) (owes_names (owed_in rows row)) → HasAll texts low high to set → All (λ d. Has d → PaysSome (numbers_of set) t d) (owed_in rows row)
   in-set low high rows row set inside spans kept all = λ k d within has.
       let between = All-get_or (AreBetween low high) rows row [] inside spans k d within in
       (all (get_or (owed_in rows row) k d).message (All-names (Keeps texts) (owed_in rows row) kept k d within) between.0 between.1 has.0, has.1)
@@ -88,6 +90,6 @@ module _ (texts : Texts) (to : List ℕ) (t : ℕ) where
         whole = ap (λ ds. debt ∷ ds) one.whole;
         holds = one.holds;
         none_before = All-cons (λ x. ¬ (Has x)) debt one.before fails one.none_before;
-        rest = ap (λ b. cond b debts (debt ∷ paid_by message t debts)) (false_from_ne_true (is_payable message t debt) (λ paid. fails (pays message debt has.0 paid)))
-            ∙ ap (λ ds. debt ∷ ds) one.rest;
+        rest = ap (λ b. cond b debts (debt ∷ paid_by message t debts))
+            (false_from_ne_true (is_payable message t debt) (λ paid. fails (pays message debt has.0 paid))) ∙ ap (λ ds. debt ∷ ds) one.rest;
       }

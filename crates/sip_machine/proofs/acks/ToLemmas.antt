@@ -1,5 +1,5 @@
--- The To that stands beside a kept message stays what it is, and tells which of the messages has a To.
-use Rattle.sip_machine.proofs.Words.{◌≡◌, ◌≢◌, ◌<◌, ◌≤◌, ◌↔◌, ◌-◌, ◌+◌, ℕ, Bool, true, false, IsTrue, Option, Some, None, bytes_eq, List, [], ◌∷◌, ◌++◌, All, AllPairs, Contains, length, map, slice_get, take, items_where_true, bytes_decides, sym, ◌∙◌, ap, subst, arith, get_or, nat_lt, nat_tests, and-false, cases_lt, ne_eqb, get_or_picked, get_or_from_slice_get, get_or-map, get_or-take, length-map, length-take-le, take_all, All-contains, All-contains_itself, All-from_retain, IsFiltered, All-get_or, All-push, All-take, All-weaker, AllPairs-cons, AllPairs-head, AllPairs-tail, same_reading, solid, Texts, IsBook, Keeps, text_of, only, To, full_hash, numbers_of, IsToOf, IsTo, AreTos, AreUnder, HasAll, IsChanged, count_between}
+-- The To that stands beside a kept message stays what it is, and tells which of the messages has a To. The numbers of messages stand under the hashes of Tos.
+use Rattle.sip_machine.proofs.Words.{◌≡◌, ◌<◌, ◌≤◌, ◌↔◌, ◌-◌, ℕ, Bool, true, false, IsTrue, Option, None, Some, bytes_eq, List, [], ◌∷◌, ◌++◌, All, AllPairs, Contains, length, map, slice_get, take, items_where_true, bytes_decides, sym, ◌∙◌, ap, subst, arith, get_or, nat_lt, nat_tests, and-false, cases_lt, ne_eqb, get_or_picked, get_or_from_slice_get, get_or-map, get_or-take, length-map, length-take-le, take_all, All-contains, All-contains_itself, All-from_retain, IsFiltered, All-get_or, All-push, All-take, All-weaker, AllPairs-cons, AllPairs-head, AllPairs-tail, same_reading, solid, Texts, IsBook, Keeps, text_of, only, To, full_hash, numbers_of, IsToOf, IsTo, AreTos, AreUnder, HasAll, IsChanged, count_between, cond, ◌==◌}
 use Rattle.std.specs.BTreeMap.{is_at}
 use Rattle.std.specs.Map.{lookup}
 use Rattle.std.specs.Ordering.{nat_cmp}
@@ -65,7 +65,8 @@ before_last tos last up is k d low =
     subst (λ (to : To). (get_or tos k d).number < to.number) (get_or_from_slice_get tos (length tos - 1) last d (sym is)) lt
 
 -- where a test finds the number of the last To of the list below this one, those of all are
-pub below_last : (tos : List To) (number : ℕ) (last : To) → AllPairs below tos → Some last ≡ slice_get tos (length tos - 1) → IsTrue (nat_lt last.number number) → All (λ to. to.number < number) tos
+pub below_last : (tos : List To) (number : ℕ) (last : To) → AllPairs below tos → Some last ≡ slice_get tos (length tos - 1) →
+    IsTrue (nat_lt last.number number) → All (λ to. to.number < number) tos
 below_last tos number last up is low = λ k d within.
     grind (arith, nat_tests, before_last tos last up is k d, get_or_from_slice_get tos (length tos - 1) last d (sym is))
 
@@ -106,14 +107,36 @@ module _ {F : Type 0} (R : F → To → Bool → F → Type 0) (f : F) (tos left
 pub AllPairs-take : {X : Type 0} (R : X → X → Type 0) (n : ℕ) (xs : List X) → AllPairs R xs → AllPairs R (take n xs)
 AllPairs-take R n xs up = grind (arith, nat_tests, cases_lt, take_all, length-take-le, get_or-take)
 
+-- where the entries are the same, the same numbers stand under each hash
+pub stands-same : (old new : Sets) → new.entries ≡ old.entries → (h n : ℕ) → stands new h n ≡ stands old h n
+unfolding stands
+stands-same old new same h n = ap (λ es. is_in (lookup (is_at (nat_cmp h)) es) n) same
+
+-- What follows is of sets in which `there` is what stands under a hash, if a set does, and of one number there.
+module _ (old : Sets) (hash number : ℕ) (is_there : Bool) (there : Option (List Word)) (is : there ≡ lookup (is_at (nat_cmp hash)) old.entries) where
+  -- where another set stands there now, which has the number just if `is_there`, and others as before, that number alone is changed
+  pub set-changed : (new : Sets) (set : List Word) →
+      ((h : ℕ) → lookup (is_at (nat_cmp h)) new.entries ≡ cond (is_at (nat_cmp hash) h) (Some set) (lookup (is_at (nat_cmp h)) old.entries)) →
+      ((n : ℕ) → numbers_of set n ≡ cond (n == number) is_there (is_in there n)) → IsChanged hash number is_there old new
+  unfolding stands
+  set-changed new set each has h n = grind (arith, nat_tests, is, each h, has n)
+
+  -- where no set stands there, to take the number changes nothing
+  pub none-taken : there ≡ None → is_there ≡ false → IsChanged hash number is_there old old
+  unfolding stands
+  none-taken none gone h n = grind (arith, nat_tests, is, none, gone)
+
 -- where the number of a To is put under its hash, it stands there after the others, and these stand under theirs
-pub under-put : (to : To) (old new : Sets) (tos : List To) → IsChanged (full_hash to.text) to.number true old new → AreUnder tos old → AreUnder (tos ++ to ∷ []) new
+pub under-put : (to : To) (old new : Sets) (tos : List To) → IsChanged (full_hash to.text) to.number true old new → AreUnder tos old →
+    AreUnder (tos ++ to ∷ []) new
 under-put to old new tos changed under =
     All-push (λ t. stands new (full_hash t.text) t.number ≡ true) tos to
-    (λ k d low. let was = under k d low in let t = get_or tos k d in grind (arith, nat_tests, changed (full_hash t.text) t.number)) (grind (arith, nat_tests, changed (full_hash to.text) to.number))
+    (λ k d low. let was = under k d low in let t = get_or tos k d in grind (arith, nat_tests, changed (full_hash t.text) t.number))
+    (grind (arith, nat_tests, changed (full_hash to.text) to.number))
 
 -- where a number is taken from a hash, the first Tos, which have lesser numbers, stand where they stood
-pub under-taken : (hash number : ℕ) (old new : Sets) (n : ℕ) (tos : List To) → IsChanged hash number false old new → All (λ to. to.number < number) (take n tos) → AreUnder tos old → AreUnder (take n tos) new
+pub under-taken : (hash number : ℕ) (old new : Sets) (n : ℕ) (tos : List To) → IsChanged hash number false old new →
+    All (λ to. to.number < number) (take n tos) → AreUnder tos old → AreUnder (take n tos) new
 under-taken hash number old new n tos changed lower under = λ k d low.
     let less = lower k d low in
     let stood = All-take (λ to. stands old (full_hash to.text) to.number ≡ true) n tos under k d low in
@@ -121,8 +144,8 @@ under-taken hash number old new n tos changed lower under = λ k d low.
     grind (arith, nat_tests, changed (full_hash to.text) to.number, ne_eqb, and-false)
 
 -- the set that is found under the hash of a To has the numbers of all Tos of the list that are the same
-pub under-found : (sets : Sets) (tos : List To) (to : List ℕ) (hash : ℕ) (found : Option (List Word)) → hash ≡ full_hash to → found ≡ lookup (is_at (nat_cmp hash)) sets.entries →
-    AreUnder tos sets → All (λ its. its.text ≡ to → is_in found its.number ≡ true) tos
+pub under-found : (sets : Sets) (tos : List To) (to : List ℕ) (hash : ℕ) (found : Option (List Word)) → hash ≡ full_hash to →
+    found ≡ lookup (is_at (nat_cmp hash)) sets.entries → AreUnder tos sets → All (λ its. its.text ≡ to → is_in found its.number ≡ true) tos
 unfolding stands
 under-found sets tos to hash found of_to is under = λ k d low same.
     ap (λ o. is_in o (get_or tos k d).number) (is ∙ ap (λ h. lookup (is_at (nat_cmp h)) sets.entries) (of_to ∙ ap full_hash (sym same))) ∙ under k d low

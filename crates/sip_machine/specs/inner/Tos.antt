@@ -58,4 +58,5 @@ IsChanged hash number is_there old new = (h n : ℕ) → stands new h n ≡ cond
 
 -- of the kept messages with numbers from low up to high, those that have this To are in the set
 abbrev pub HasAll : Texts → ℕ → ℕ → List ℕ → List Word → Type 0
-HasAll texts low high to set = (number : ℕ) → Keeps texts number → low ≤ number → number ≤ high → IsToOf (text_of texts number) to → numbers_of set number ≡ true
+HasAll texts low high to set =
+    (number : ℕ) → Keeps texts number → low ≤ number → number ≤ high → IsToOf (text_of texts number) to → numbers_of set number ≡ true

@@ -9,5 +9,6 @@ use Rattle.sip_machine.proofs.book.Book.under.Goals as goal
 pub returns : goal.returns
 returns c =
     let texts = texts_of c.self.inside.kept.items in
-    rw (← c.self.view_is) (IfSome_then c.under.result c.under.ensures (λ set. has-all texts c.self.inside.tos c.args.low c.args.high c.self.invariant.0 c.self.invariant.2 c.between.ensures.rising
+    rw (← c.self.view_is) (IfSome_then c.under.result c.under.ensures (λ set.
+    has-all texts c.self.inside.tos c.args.low c.args.high c.self.invariant.0 c.self.invariant.2 c.between.ensures.rising
     (sym (rw c.deref.ensures.value at c.kept_between.ensures) ∙ c.if-kept_between-between.false ∙ c.between.ensures.count) c.args.to.now set.now))

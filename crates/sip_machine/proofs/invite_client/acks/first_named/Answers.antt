@@ -8,7 +8,8 @@ use Rattle.sip_machine.proofs.invite_client.acks.first_named.Goals.{then-branch+
 
 -- one name more, whose message has the To, and which is put into the set
 one-with : (texts : Texts) (to : List ℕ) (t : ℕ) (old new : List Word) (names : List ℕ) (at : ℕ) → AreWith texts to t old (take at names) → at < length names →
-    IsToOf (text_of texts (get_or names at 0)) to → ((m : ℕ) → numbers_of new m ≡ cond (m == get_or names at 0) true (numbers_of old m)) → AreWith texts to t new (take (at + 1) names)
+    IsToOf (text_of texts (get_or names at 0)) to → ((m : ℕ) → numbers_of new m ≡ cond (m == get_or names at 0) true (numbers_of old m)) →
+    AreWith texts to t new (take (at + 1) names)
 one-with texts to t old new names at are low its changed =
     let name = get_or names at 0 in
     let Old : ℕ → Type 0 = λ m. IsToOf (text_of texts m) to → numbers_of old m ≡ true in
@@ -28,7 +29,8 @@ one-with texts to t old new names at are low its changed =
 -- the book keeps each message that the row owes
 pub has_to-requires : goal.has_to-requires
 has_to-requires c =
-    subst (All (Keeps c.args.book.now)) (sym c.deref-message-items.ensures.value) (all-named (Keeps c.args.book.now) _ _ _ c.new-messages.ensures.items c.in_ok-names_once.ensures.ok c.requires.owed)
+    subst (All (Keeps c.args.book.now)) (sym c.deref-message-items.ensures.value)
+    (all-named (Keeps c.args.book.now) _ _ _ c.new-messages.ensures.items c.in_ok-names_once.ensures.ok c.requires.owed)
     c.loop-message.message-index 0 c.loop-message-test.true
 
 -- no message was looked at yet
@@ -47,8 +49,8 @@ loop-message-preserved c =
       | else-branch w ↦
           rw w.those-is record {
             only = l.invariant.only;
-            each = All-more (λ n. IsToOf (text_of c.args.book.now n) c.args.to.now → numbers_of l.those n ≡ true) names l.message-index 0 c.loop-message-test.true l.invariant.each
-                (λ its. absurd (true≢false (sym (c.in_ok-has_to.ensures.1 its) ∙ w.if-branch.false)));
+            each = All-more (λ n. IsToOf (text_of c.args.book.now n) c.args.to.now → numbers_of l.those n ≡ true) names l.message-index 0
+                c.loop-message-test.true l.invariant.each (λ its. absurd (true≢false (sym (c.in_ok-has_to.ensures.1 its) ∙ w.if-branch.false)));
           }
     ]
 
@@ -60,7 +62,8 @@ returns c =
     let owes = owed_in c.args.accounts.now c.args.row in
     let set = c.loop-message.those in
     let InSet : ℕ → Type 0 = λ n. IsToOf (text_of texts n) to → numbers_of set n ≡ true in
-    let each = rw (take_all c.loop-message.message-index c.deref-message-items.result.now c.loop-message-test.false, c.deref-message-items.ensures.value) at c.loop-message.invariant.each in
+    let items = c.deref-message-items in
+    let each = rw (take_all c.loop-message.message-index items.result.now c.loop-message-test.false, items.ensures.value) at c.loop-message.invariant.each in
     let all = All-names InSet owes (all-owed InSet owes _ _ c.new-messages.ensures.items c.in_ok-names_once.ensures.ok each) in
     found-with texts to c.args.moment set owes c.in-Some.found (λ k d low has. (all k d low has.0, has.1)) c.in-Some.ensures.first
     (found-is (PaysSome (numbers_of set) c.args.moment) (λ m. IsToOf (text_of texts m) to) c.args.moment owes c.in-Some.found

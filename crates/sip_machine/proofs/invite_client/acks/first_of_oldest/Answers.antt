@@ -10,7 +10,8 @@ abbrev no_debt : Debt
 no_debt = record { message = 0; deadline = 0; must = false }
 
 -- what stands in a place of the oldest debts stands in that place of all
-oldest-at : (items owes : List Debt) (most at : ℕ) → items ≡ take most owes → at < length items → (get_or items at no_debt ≡ get_or owes at no_debt) × (at < length owes)
+oldest-at : (items owes : List Debt) (most at : ℕ) → items ≡ take most owes → at < length items →
+    (get_or items at no_debt ≡ get_or owes at no_debt) × (at < length owes)
 oldest-at items owes most at same low =
     let long = ap length same ∙ length-take most owes in
     (ap (λ l. get_or l at no_debt) same ∙ get_or-take most owes at no_debt (omega (arith, long, low)), omega (arith, long, low))

@@ -19,7 +19,8 @@ returns-then-branch c =
 pub returns-in_default-found : goal.returns-in_default-found
 returns-in_default-found c =
     found-with c.args.book.now c.args.to.now c.args.moment c.in-Some-under.messages.now (owed_in c.args.accounts.now c.args.row) None
-    (in-set _ _ c.args.moment _ _ _ _ _ c.requires.row c.span-low.ensures c.requires.owed c.in-Some-under.ensures) (rw c.in_default-found.is at c.in-Some-first_payable.ensures.first) (search rules)
+    (in-set _ _ c.args.moment _ _ _ _ _ c.requires.row c.span-low.ensures c.requires.owed c.in-Some-under.ensures)
+    (rw c.in_default-found.is at c.in-Some-first_payable.ensures.first) (search rules)
 
 -- the book keeps the message that was found in the set
 pub has_to-requires-in-Some-first_payable : goal.has_to-requires-in-Some-first_payable
@@ -34,5 +35,5 @@ has_to-requires-in-Some-first_payable c =
 pub returns-then-branch-2 : goal.returns-then-branch-2
 returns-then-branch-2 c =
     found-with c.args.book.now c.args.to.now c.args.moment c.in-Some-under.messages.now (owed_in c.args.accounts.now c.args.row) (Some c.in-Some-found.message)
-    (in-set _ _ c.args.moment _ _ _ _ _ c.requires.row c.span-low.ensures c.requires.owed c.in-Some-under.ensures) (rw c.in-Some-found.is at c.in-Some-first_payable.ensures.first)
-    (c.in_ok-has_to-2.ensures.0 c.if-branch-2.true)
+    (in-set _ _ c.args.moment _ _ _ _ _ c.requires.row c.span-low.ensures c.requires.owed c.in-Some-under.ensures)
+    (rw c.in-Some-found.is at c.in-Some-first_payable.ensures.first) (c.in_ok-has_to-2.ensures.0 c.if-branch-2.true)

@@ -18,7 +18,8 @@ invariant_of-self c =
     let rise = AllPairs-take below left tos c.self.invariant.0 in
     elim c.match-self.branch [
       | in-Some-hashes w ↦
-          rw (c.pop.ensures.rest, w.self-inside-is) (rise, under-taken w.hash.result c.args.number _ w.take.new.sets left tos w.take.ensures lower (rw w.in-Some-hashes.is at c.self.invariant.1))
+          rw (c.pop.ensures.rest, w.self-inside-is)
+          (rise, under-taken w.hash.result c.args.number _ w.take.new.sets left tos w.take.ensures lower (rw w.in-Some-hashes.is at c.self.invariant.1))
       | in_default-hashes w ↦ rw (c.pop.ensures.rest, w.self-inside-is, w.in_default-hashes.is) (rise, tt)
     ]
 

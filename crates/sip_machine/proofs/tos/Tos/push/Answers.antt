@@ -14,6 +14,7 @@ invariant_of-self-2 c =
     let rise = all_pairs_push below tos to c.self.invariant.0 lower in
     elim c.match-self.branch [
       | in-Some+in_ok-put w ↦
-          rw (c.in_ok-push.ensures.items, w.self-inside-is) (rise, under-put to _ w.put.new.sets tos (rw w.hash.ensures at w.in_ok-put.ensures.ok) (rw w.in-Some.is at c.self.invariant.1))
+          rw (c.in_ok-push.ensures.items, w.self-inside-is)
+          (rise, under-put to _ w.put.new.sets tos (rw w.hash.ensures at w.in_ok-put.ensures.ok) (rw w.in-Some.is at c.self.invariant.1))
       | in_default w ↦ rw (c.in_ok-push.ensures.items, w.self-inside-is, w.in_default.is) (rise, tt)
     ]

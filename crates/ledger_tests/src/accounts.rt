@@ -91,7 +91,11 @@ impl Played {
             holds(rt, row < self.lists.len(), "a row of the lists");
             let mut left = self.lists[row].clone()?;
             let is_timely = is_timely(&left, moment);
-            if is_timely && message.is_none_or(|message| pays(&mut left, message, moment)) {
+            let comes = match message {
+                Some(message) => pays(&mut left, message, moment),
+                None => true,
+            };
+            if is_timely && comes {
                 self.lists.push(left)?;
             }
         }

@@ -72,28 +72,31 @@ impl Played {
         Ok(())
     }
 
-    /// Of the rows from one up to another, those that pay come once more, without what they pay and what is past.
-    fn pay(&mut self, rt: &impl Abort, from: usize, to: usize, message: u64, moment: u64) -> Done {
+    /// Of the rows from one up to another that must send nothing that is past, those that pay the message come once more, without what they pay and what is
+    /// past; where no message is told, each comes once more as it is.
+    fn push_some(
+        &mut self,
+        rt: &impl Abort,
+        from: usize,
+        to: usize,
+        message: Option<u64>,
+        moment: u64,
+    ) -> Done {
         holds(rt, to <= self.accounts.len(), "rows of the accounts");
-        self.accounts.push_paid(from, to, message, moment)?;
+        match message {
+            Some(message) => self.accounts.push_paid(from, to, message, moment)?,
+            None => self.accounts.push_timely(from, to, moment)?,
+        }
         for row in from..to {
             holds(rt, row < self.lists.len(), "a row of the lists");
             let mut left = self.lists[row].clone()?;
-            if is_timely(&left, moment) && pays(&mut left, message, moment) {
+            let is_timely = is_timely(&left, moment);
+            let comes = match message {
+                Some(message) => pays(&mut left, message, moment),
+                None => true,
+            };
+            if is_timely && comes {
                 self.lists.push(left)?;
-            }
-        }
-        Ok(())
-    }
-
-    /// Of the rows from one up to another, those come once more that must send nothing that is past.
-    fn push_timely(&mut self, rt: &impl Abort, from: usize, to: usize, moment: u64) -> Done {
-        holds(rt, to <= self.accounts.len(), "rows of the accounts");
-        self.accounts.push_timely(from, to, moment)?;
-        for row in from..to {
-            holds(rt, row < self.lists.len(), "a row of the lists");
-            if is_timely(&self.lists[row], moment) {
-                self.lists.push(self.lists[row].clone()?)?;
             }
         }
         Ok(())
@@ -240,7 +243,8 @@ impl Played {
         Ok(())
     }
 
-    /// The first debt that a send of one of two messages pays is the first such debt of this list.
+    /// The first debt that a send of one of two messages pays is the first such debt of this list. It is found by a look at three, perhaps at fewer, and
+    /// not at none.
     fn pays_one_first(&self, rt: &impl Abort, row: usize, list: &[Debt], moment: u64) -> Done {
         // Each two of the messages 0, 1 and 2.
         for two in [[2, 1], [0, 2], [1, 0]] {
@@ -250,30 +254,17 @@ impl Played {
             let mut debts = list.iter();
             let first = debts.find(|debt| two.contains(&debt.message) && moment <= debt.deadline);
             let want = first.map(|debt| debt.message);
-            self.pays_first(rt, row, &messages, moment, want);
+            for most in 0..4 {
+                holds(rt, row < self.accounts.len(), "a row of the accounts");
+                // The messages are two, so that a look at three always tells.
+                let is_told = match self.accounts.first_payable(row, &messages, moment, most) {
+                    Some(found) => found == want && most > 0,
+                    None => most < 3,
+                };
+                holds_of(rt, is_told, "first payable", row);
+            }
         }
         Ok(())
-    }
-
-    /// The first debt that a send of one of these two messages pays is the wanted one. It is found by a look at three, perhaps at fewer, and not at none.
-    fn pays_first(
-        &self,
-        rt: &impl Abort,
-        row: usize,
-        messages: &Numbers,
-        now: u64,
-        want: Option<u64>,
-    ) {
-        for most in 0..4 {
-            holds(rt, row < self.accounts.len(), "a row of the accounts");
-            let first = self.accounts.first_payable(row, messages, now, most);
-            let told = match first {
-                Some(first) => first == want && most > 0,
-                // The messages are two, so that a look at three always tells.
-                None => most < 3,
-            };
-            holds_of(rt, told, "first payable", row);
-        }
     }
 
     /// Rows are told to owe the same where their lists are the same.
@@ -387,14 +378,14 @@ fn change_many(rt: &impl Abort, chance: &mut Chance, played: &mut Played, moment
     let to = played.row(chance);
     let message = chance.below(3);
     match chance.below(6) {
-        0 if played.lists.len() < 12 => played.push_timely(rt, from, to, moment)?,
+        0 if played.lists.len() < 12 => played.push_some(rt, from, to, None, moment)?,
         1 => played.expire_each(from, moment)?,
         2 => {
             let must = chance.below(2) == 0;
             played.gain_each(from, owed(message, moment.saturating_add(5), must))?;
         }
         3 if played.lists.len() > 6 => played.drop_first(rt),
-        _ if played.lists.len() < 12 => played.pay(rt, from, to, message, moment)?,
+        _ if played.lists.len() < 12 => played.push_some(rt, from, to, Some(message), moment)?,
         _ => played.truncate(),
     }
     Ok(())
@@ -485,7 +476,7 @@ fn rows_that_pay_lose_what_is_past(rt: HostRuntime) -> Done {
     let mut played = Played::new(&rt)?;
     played.gain_each(0, owed(1, 10, false))?;
     played.gain_each(0, owed(2, 20, true))?;
-    played.pay(&rt, 0, 1, 2, 15)?;
+    played.push_some(&rt, 0, 1, Some(2), 15)?;
     played.agree(&rt)
 }
 

@@ -35,18 +35,11 @@ fn set_of(alloc: Global, numbers: &[u64]) -> Result<Numbers, Fail> {
 
 /// The first number from `from` on that is in both sets is that of the lists: they need not be in order.
 fn meets(rt: &impl Abort, sets: (&Numbers, &Numbers), lists: (&[u64], &[u64]), from: u64) {
-    let both = lists
-        .0
-        .iter()
-        .copied()
-        .filter(|number| lists.1.contains(number));
-    let want = both.filter(|number| from <= *number).min();
-    holds_of(
-        rt,
-        sets.0.next_in_both(sets.1, from) == want,
-        "next in both",
-        from as usize,
-    );
+    let (ones, others) = lists;
+    let both = ones.iter().filter(|it| from <= **it && others.contains(it));
+    let found = sets.0.next_in_both(sets.1, from);
+    let is_first = found == both.copied().min();
+    holds_of(rt, is_first, "next in both", from as usize);
 }
 
 /// Two sets meet in the numbers that were put into both and not taken out of one, whichever side is asked, and from wherever on.

@@ -49,7 +49,7 @@ pub use Rattle.sip_machine.specs.inner.Paying.{FindsFirst, PaysFor}
 pub use Rattle.sip_machine.specs.inner.Pools.{AreFirstOnes, AreMixedWith, IsSought, beside, one_past, picked}
 pub use Rattle.sip_machine.specs.inner.Single.{AnswersOne, IsTheOne}
 pub use Rattle.sip_machine.specs.inner.Slots.{AreSlots, IsNewest, IsReached, Slotted, slot_of, slotted}
-pub use Rattle.sip_machine.specs.inner.Tos.{AreTos, AreUnder, IsChanged, IsTo, IsToOf, IsUnder, StandUnder, count_between}
+pub use Rattle.sip_machine.specs.inner.Tos.{AreTos, AreUnder, HasAll, IsChanged, IsTo, IsToOf, count_between}
 pub use Rattle.sip_machine.specs.inner.Turns.{TurnInRange, changed_debts, state_in, turn_names, turn_seen}
 pub use Rattle.sip_message.proofs.lemmas.says.Reading.{same_reading, says-no_fault, says-reads}
 pub use Rattle.sip_message.specs.Reading.{Reading}

@@ -1,4 +1,4 @@
--- Lists of any elements, and indexes.
+-- Lists of any elements, and the pairs of places.
 pub mod EachLemmas
 pub mod FrontLemmas
-pub mod IndexLemmas
+pub mod PlaceLemmas

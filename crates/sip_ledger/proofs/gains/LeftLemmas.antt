@@ -1,5 +1,5 @@
 -- Which gains are left, whether their deadlines rise, what is known beside each by its flags, and what changes of that when gains come, are let go or are dropped.
-use Rattle.sip_ledger.proofs.Words.{nat_tests, ◌-◌, ◌<◌, ◌≤◌, List, [], ◌∷◌, ◌++◌, length, get_or, arith, cases_lt, cases_eq, get_or_append_left, get_or_push, length_push, Entry, AreRising, ◌≡◌, ℕ, Bool, ◌+◌, true, false, drop, set, ap, ◌∙◌, get_or-drop, get_or-set_other, get_or-set_same, length-append, length-drop, length-set, Debt, Gains, AreFlags, AreSameGains, IsDropped, IsGain, IsUndropped, IsLetGo, blank, entries_of, entry_at, is_left, no_flags, holds, suc, ◌^◌, ◌==◌, ◌&&◌, cond, sym, ap₂, replicate, eq-eqb, false_from_ne_true, ne_eqb, true≢false, and-false, append_assoc, get_or-append_right, get_or_default, get_or_past, length-replicate, Account, Strike, debts_from, AreGains, IsNoted, owes_at}
+use Rattle.sip_ledger.proofs.Words.{leb-true, nat_tests, ◌-◌, ◌<◌, ◌≤◌, List, [], ◌∷◌, ◌++◌, length, get_or, arith, cases_lt, cases_eq, get_or_append_left, get_or_push, length_push, Entry, AreRising, ◌≡◌, ℕ, Bool, ◌+◌, true, false, drop, set, ap, ◌∙◌, get_or-drop, get_or-set_other, get_or-set_same, length-append, length-drop, length-set, Debt, Gains, AreFlags, AreSameGains, IsDropped, IsGain, IsUndropped, IsLetGo, blank, entries_of, entry_at, is_left, no_flags, holds, suc, ◌^◌, ◌==◌, ◌&&◌, cond, sym, ap₂, replicate, eq-eqb, false_from_ne_true, ne_eqb, true≢false, and-false, append_assoc, get_or-append_right, get_or_default, get_or_past, length-replicate, numbers_of, Account, Strike, debts_from, AreGains, IsNoted, owes_at}
 use Rattle.sip_ledger.proofs.debts.ListedLemmas.{listed-none}
 
 -- there are as many entries as there were gains
@@ -21,7 +21,7 @@ entry_index gains k i e long kept here is = grind (arith, get_or_default, entry-
 -- a gain that is left is kept
 pub left-kept : (gains : Gains) (k : ℕ) → AreGains gains → is_left gains k ≡ true → IsUndropped gains k
 unfolding is_left
-left-kept gains k are left = (are.messages (entry_at (entries_of gains) k).message k left).kept
+left-kept gains k are left = (are.messages (entry_at (entries_of gains) k).message k left).0
 
 -- a gain stands under its message exactly if it is left
 pub held_left : (gains : Gains) (m k : ℕ) → (entry_at (entries_of gains) k).message ≡ m → holds gains.messages m k ≡ is_left gains k
@@ -33,7 +33,7 @@ pub not-noted : (gains : Gains) (m k : ℕ) → AreGains gains → gains.end ≤
 not-noted gains m k are past = grind (arith, false_from_ne_true)
 
 -- empty lists are right gains
-pub none-gained : (gains : Gains) → gains.entries.items ≡ [] → gains.flags.items ≡ [] → gains.end ≡ 0 → gains.messages ≡ [] → gains.musts ≡ [] → AreGains gains
+pub none-gained : (gains : Gains) → gains.entries.items ≡ [] → gains.flags.items ≡ [] → gains.end ≡ 0 → gains.messages ≡ [] → ((k : ℕ) → numbers_of gains.musts k ≡ false) → AreGains gains
 unfolding holds
 none-gained gains entries flags end messages musts = grind (arith, nat_tests, true≢false)
 
@@ -66,7 +66,7 @@ left-as old new k same messages = ap (λ (e : Entry). holds new.messages e.messa
 -- where a gain comes with its flags, and stands under its message, the gains are right, and the new one is theirs
 pub gains-more : (old new : Gains) (debt : Debt) (newest : Bool) → AreGains old → new.entries.items ≡ old.entries.items ++ (record { message = debt.message; deadline = debt.deadline }) ∷ [] →
     new.flags.items ≡ old.flags.items ++ (record { must = debt.must; left = true; newest = newest }) ∷ [] → new.end ≡ old.end + 1 → new.end < 2 ^ 64 →
-    IsNoted old.end debt old.messages old.musts new.messages new.musts → (newest ≡ true → old.highest ≤ debt.message) →
+    IsNoted old.end debt old.messages new.messages old.musts new.musts → (newest ≡ true → old.highest ≤ debt.message) →
     (new.rises ≡ true → AreRising (old.entries.items ++ (record { message = debt.message; deadline = debt.deadline }) ∷ [])) → old.highest ≤ new.highest → debt.message ≤ new.highest →
     AreGains new × IsGain debt old new
 unfolding is_left
@@ -81,14 +81,14 @@ gains-more old new debt newest are entries flags end small noted top rises highe
 
 -- where the entries, the flags and the places under the messages stay, the gains are right still, and the same
 pub gains-same : (old new : Gains) → AreGains old → new.entries.items ≡ old.entries.items → new.flags.items ≡ old.flags.items → new.end ≡ old.end →
-    ((m k : ℕ) → holds new.messages m k ≡ holds old.messages m k) → ((k : ℕ) → holds new.musts 0 k ≡ holds old.musts 0 k) → new.rises ≡ old.rises → new.highest ≡ old.highest →
+    ((m k : ℕ) → holds new.messages m k ≡ holds old.messages m k) → ((k : ℕ) → numbers_of new.musts k ≡ numbers_of old.musts k) → new.rises ≡ old.rises → new.highest ≡ old.highest →
     AreGains new × AreSameGains old new
 unfolding entries_of
 gains-same old new are entries flags end messages musts rises highest = grind (arith, nat_tests, left-as)
 
 -- where a gain is let go, and its flags are blank then, the flags are right still
 flags-let_go : (old new : Gains) (place : ℕ) → AreFlags old → length old.entries.items ≤ old.end → IsUndropped old place → new.entries.items ≡ old.entries.items →
-    new.flags.items ≡ set old.flags.items (place - (old.end - length old.entries.items)) no_flags → holds new.musts 0 place ≡ false → IsLetGo place old new → AreFlags new
+    new.flags.items ≡ set old.flags.items (place - (old.end - length old.entries.items)) no_flags → numbers_of new.musts place ≡ false → IsLetGo place old new → AreFlags new
 unfolding is_left
 flags-let_go old new place are long kept entries flags must gone = grind (arith, nat_tests, get_or-set_same, get_or-set_other, length-set, cases_eq, left-as)
 
@@ -96,7 +96,7 @@ flags-let_go old new place are long kept entries flags must gone = grind (arith,
 pub gains-let_go : (old new : Gains) (place : ℕ) → AreGains old → IsUndropped old place → new.entries.items ≡ old.entries.items →
     new.flags.items ≡ set old.flags.items (place - (old.end - length old.entries.items)) no_flags → new.end ≡ old.end → new.rises ≡ old.rises → new.highest ≡ old.highest →
     ((m k : ℕ) → holds new.messages m k ≡ cond (m == (entry_at (entries_of old) place).message && k == place) false (holds old.messages m k)) →
-    ((m k : ℕ) → holds new.musts m k ≡ cond (m == 0 && k == place) false (holds old.musts m k)) → AreGains new × IsLetGo place old new
+    ((k : ℕ) → numbers_of new.musts k ≡ cond (k == place) false (numbers_of old.musts k)) → AreGains new × IsLetGo place old new
 unfolding entries_of
 gains-let_go old new place are kept entries flags end rises highest messages musts =
     grind (arith, nat_tests, cases_eq, eq-eqb, ne_eqb, false_from_ne_true, and-false, true≢false, flags-let_go)
@@ -125,3 +125,9 @@ listed-alike o m o' m' i (x ∷ xs) (y ∷ ys) long none same alike =
 pub rising-push : (entries : List Entry) (entry : Entry) → AreRising entries → ((e : Entry) → 0 < length entries → (get_or entries (length entries - 1) e).deadline ≤ entry.deadline) →
     AreRising (entries ++ entry ∷ [])
 rising-push entries entry rises last i k e order below = grind (arith, nat_tests, cases_lt, cases_eq, length_push, get_or_push entries entry e, get_or_append_left entries (entry ∷ []) e, rises i k e, rises i (length entries - 1) e, last e)
+
+-- lemmas for the prover under one name: deadlines rise with one more
+pub ruleset rising_by_one = (get_or_default, leb-true, nat_tests, rising-push)
+
+-- lemmas for the prover under one name: nothing was gained
+pub ruleset none_gained_yet = (nat_tests, none_entries, true≢false)

@@ -1,12 +1,12 @@
 //! What the rows gained: one list for all.
 ghost use Rattle.std.specs.Prelude.{◌≡◌, ◌<◌, ◌≤◌, ◌+◌, ◌==◌, ◌&&◌, ◌++◌, ◌∷◌};
-ghost use Rattle.sip_ledger.specs.inner.Words.{ℕ, [], IfSome, IfNone, MatchOption, OnOk, OnErr, cond, length, true, false, OnTrue, AreGains, AreRising, AreSameGains, IsDropped, IsGain, IsUndropped, IsLetGo, IsNext, IsNoted, IsPlaceOf, IsSeek, entries_of, entry_at, flags_at, holds, is_left, least_after};
+ghost use Rattle.sip_ledger.specs.inner.Words.{ℕ, [], IfSome, IfNone, MatchOption, OnOk, OnErr, cond, length, true, false, OnTrue, AreGains, AreRising, AreSameGains, IsDropped, IsGain, IsUndropped, IsLetGo, IsNext, IsNoted, IsSeek, entries_of, entry_at, flags_at, holds, is_left, least_after, numbers_of};
 
 use crate::accounts::places::Places;
 use crate::accounts::seek::Seek;
 use crate::debt::{Debt, Entry};
 use crate::front;
-use crate::index::Index;
+use sip_numbers::Numbers;
 use std::alloc::{AllocError, Global};
 
 /// What is asked of a gain most often.
@@ -31,8 +31,8 @@ pub(crate) struct Gains {
     pub end: usize,
     /// The places of the gains that are left, under the messages.
     pub messages: Places,
-    /// The places of what must be sent, under 0.
-    pub musts: Index,
+    /// The places of what must be sent.
+    pub musts: Numbers,
     /// Whether no deadline is below the one before it, as far as gains are kept.
     pub rises: bool,
     /// No gain that is kept has a greater message.
@@ -41,7 +41,7 @@ pub(crate) struct Gains {
 
 impl Gains {
     /// Nothing was gained.
-    #[tactic(auto, using(crate::proofs::gains::LeftLemmas::none_entries))]
+    #[tactic(auto, using(crate::proofs::gains::LeftLemmas::none_gained_yet), unfolding(crate::specs::inner::Places::holds))]
     pub(crate) fn new(alloc: Global) -> Self
         ensures gained { AreGains result }
         ensures none { entries_of result ≡ [] }
@@ -51,7 +51,7 @@ impl Gains {
             flags: Vec::new(alloc),
             end: 0,
             messages: Places::new(alloc),
-            musts: Index::new(alloc),
+            musts: Numbers::new(alloc),
             rises: true,
             highest: 0,
         }
@@ -154,13 +154,14 @@ impl Gains {
     /// The first place of the message from this one on that is left.
     pub(crate) fn next(&self, message: u64, from: usize) -> Option<usize>
         requires { AreGains self.now }
-        ensures { IsNext self.now message from result }
+        ensures { IsNext self.now.messages message from result }
     {
         let at = self.messages.next(message, from as u64)?;
         Some(at as usize)
     }
 
     /// A place from this one on before which no gain from this one on is left: that of the next gain that is left, mostly.
+    #[tactic(auto, unfolding(crate::specs::inner::Accounts::is_left))]
     pub(crate) fn next_left(&self, from: usize) -> usize
         requires { AreGains self.now }
         ensures low { from ≤ result }
@@ -209,13 +210,13 @@ impl Gains {
         }
     }
 
-    /// The first place from this one on of what must be sent. The place itself is looked at before the index is asked.
+    /// The first place from this one on of what must be sent. The place itself is looked at before the set is asked.
     pub(crate) fn next_must(&self, from: usize) -> Option<usize>
         requires { AreGains self.now }
         ensures within { IfSome result (λ at. (from ≤ at) × (at < self.now.end)) }
-        ensures is { IfSome result (λ at. holds self.now.musts 0 at ≡ true) }
-        ensures before { IfSome result (λ at. (k : ℕ) → from ≤ k → k < at → holds self.now.musts 0 k ≡ false) }
-        ensures none { IfNone result ((k : ℕ) → from ≤ k → holds self.now.musts 0 k ≡ false) }
+        ensures is { IfSome result (λ at. numbers_of self.now.musts at ≡ true) }
+        ensures before { IfSome result (λ at. (k : ℕ) → from ≤ k → k < at → numbers_of self.now.musts k ≡ false) }
+        ensures none { IfNone result ((k : ℕ) → from ≤ k → numbers_of self.now.musts k ≡ false) }
     {
         if self.end <= from {
             return None;
@@ -223,7 +224,7 @@ impl Gains {
         if self.first() <= from && self.flags(from).must {
             return Some(from);
         }
-        let at = self.musts.next(0, from as u64)?;
+        let at = self.musts.next_in_both(&self.musts, from as u64)?;
         Some(at as usize)
     }
 
@@ -236,7 +237,7 @@ impl Gains {
     {
         let message = self.entry(place).message;
         self.messages.take(message, place as u64);
-        let _must = self.musts.take(0, place as u64);
+        self.musts.take(place as u64);
         // The gain stays in the list, so that the places stay; its flags say that it is not left.
         let at = place - (self.end - self.entries.len());
         self.flags[at] = Flags {
@@ -262,10 +263,10 @@ impl Gains {
 }
 
 /// Puts the place of a gain under its message, and among those of what must be sent if it must. On an error it stands nowhere.
-fn note(messages: &mut Places, musts: &mut Index, place: u64, debt: Debt) -> Result<(), AllocError>
+fn note(messages: &mut Places, musts: &mut Numbers, place: u64, debt: Debt) -> Result<(), AllocError>
     requires message { (m : ℕ) → holds messages.old m place ≡ false }
-    requires must { holds musts.old 0 place ≡ false }
-    ensures ok { OnOk result (IsNoted place debt messages.old musts.old messages.new musts.new) }
+    requires must { numbers_of musts.old place ≡ false }
+    ensures ok { OnOk result (IsNoted place debt messages.old messages.new musts.old musts.new) }
     ensures err { OnErr result (((m k : ℕ) → holds messages.new m k ≡ holds messages.old m k) × (musts.new ≡ musts.old)) }
 {
     let key = debt.message;
@@ -273,7 +274,7 @@ fn note(messages: &mut Places, musts: &mut Index, place: u64, debt: Debt) -> Res
     if !debt.must {
         return Ok(());
     }
-    if let Err(refused) = musts.put(0, place) {
+    if let Err(refused) = musts.put(place) {
         messages.take(key, place);
         return Err(refused);
     }
@@ -281,6 +282,7 @@ fn note(messages: &mut Places, musts: &mut Index, place: u64, debt: Debt) -> Res
 }
 
 /// Whether deadlines never fall, with one gain more.
+#[tactic(auto, using(crate::proofs::gains::LeftLemmas::rising_by_one))]
 fn rise(entries: &[Entry], rises: bool, entry: Entry) -> bool
     requires { rises ≡ true → AreRising entries.now }
     ensures { result ≡ true → AreRising (entries.now ++ entry ∷ []) }

@@ -28,7 +28,7 @@ impl Seek {
         requires gained { AreGains gains.now }
         requires seek { IsSeek gains.now message self.old }
         ensures seek { IsSeek gains.now message self.new }
-        ensures next { IsNext gains.now message from result }
+        ensures next { IsNext gains.now.messages message from result }
     {
         if self.tells(from) {
             return self.place;

@@ -8,5 +8,5 @@ returns c =
     let place = c.args.place in
     let len : c.len.result ≡ length g.entries.items = c.len.ensures ∙ g.entries.ok.0 in
     let messages = rw c.entry-message.ensures at c.take.ensures in
-    let all = gains-let_go g _ place c.requires.gained c.requires.kept refl (ap (λ (n : ℕ). set g.flags.items (place - (g.end - n)) no_flags) len) refl refl refl messages c.take-must.ensures.taken in
+    let all = gains-let_go g _ place c.requires.gained c.requires.kept refl (ap (λ (n : ℕ). set g.flags.items (place - (g.end - n)) no_flags) len) refl refl refl messages c.take-2.ensures in
     record { gained = all.0; gone = all.1 }

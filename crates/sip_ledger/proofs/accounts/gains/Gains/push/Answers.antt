@@ -1,4 +1,4 @@
-use Rattle.sip_ledger.proofs.Lemmas.{ap, arith, common_steps, Entry, Flags, Gains, gains-more, gains-same, holds, leb-true, nat_le, on-error, refl, rules, true, [], ◌++◌, ◌+◌, ◌∙◌, ◌∷◌, ◌≡◌}
+use Rattle.sip_ledger.proofs.Lemmas.{ap, arith, common_steps, Entry, Flags, Gains, gains-more, gains-same, leb-true, nat_le, numbers_of, on-error, refl, rules, true, [], ◌++◌, ◌+◌, ◌∙◌, ◌∷◌, ◌≡◌}
 use Rattle.sip_ledger.proofs.accounts.gains.Gains.push.Goals as goal
 
 -- where memory is refused for more entries, the gains are the same
@@ -19,7 +19,7 @@ pub returns-in_err-note : goal.returns-in_err-note
 returns-in_err-note c =
     let noted = c.in_err-note.ensures.err in
     let all = gains-same c.args.self.now (record c.args.self.now { entries = c.reserve.new.self; flags = c.reserve-2.new.self; messages = c.note.new.messages; musts = c.note.new.musts }) c.requires
-    c.reserve.ensures.items c.reserve-2.ensures.items refl noted.0 (λ k. ap (λ l. holds l 0 k) noted.1) refl refl in
+    c.reserve.ensures.items c.reserve-2.ensures.items refl noted.0 (λ k. ap (λ l. numbers_of l k) noted.1) refl refl in
     record { gained = all.0; ok = first_of (search rules, grind (arith, common_steps)); err = on-error c.from_residual-in_err-note.result c.from_residual-in_err-note.ensures.0 all.1 }
 
 -- with the new gain, its entry, its flags and its places in the indexes are right

@@ -1,5 +1,5 @@
 -- Which gains are left, whether their deadlines rise, what is known beside each by its flags, and what changes of that when gains come, are let go or are dropped.
-use Rattle.sip_ledger.proofs.Words.{leb-true, nat_tests, ◌-◌, ◌<◌, ◌≤◌, List, [], ◌∷◌, ◌++◌, length, get_or, arith, cases_lt, cases_eq, get_or_append_left, get_or_push, length_push, Entry, AreRising, ◌≡◌, ℕ, Bool, ◌+◌, true, false, drop, set, ap, ◌∙◌, get_or-drop, get_or-set_other, get_or-set_same, length-append, length-drop, length-set, Debt, Gains, AreFlags, AreSameGains, IsDropped, IsGain, IsUndropped, IsLetGo, blank, entries_of, entry_at, is_left, no_flags, holds, suc, ◌^◌, ◌==◌, ◌&&◌, cond, sym, ap₂, replicate, eq-eqb, false_from_ne_true, ne_eqb, true≢false, and-false, append_assoc, get_or-append_right, get_or_default, get_or_past, length-replicate, numbers_of, Account, Strike, debts_from, AreGains, IsNoted, owes_at}
+use Rattle.sip_ledger.proofs.Words.{leb-true, nat_tests, ◌-◌, ◌<◌, ◌≤◌, List, [], ◌∷◌, ◌++◌, length, get_or, arith, cases_lt, cases_eq, get_or_append_left, get_or_push, length_push, Entry, AreRising, ◌≡◌, ◌≢◌, ℕ, Bool, ◌+◌, true, false, drop, set, ap, ◌∙◌, get_or-drop, get_or-set_other, get_or-set_same, length-append, length-drop, length-set, Debt, Gains, AreFlags, AreSameGains, IsDropped, IsGain, IsUndropped, IsLetGo, blank, entries_of, entry_at, is_left, no_flags, holds, suc, ◌^◌, ◌==◌, ◌&&◌, cond, sym, ap₂, replicate, eq-eqb, false_from_ne_true, ne_eqb, true≢false, and-false, append_assoc, get_or-append_right, get_or_default, get_or_past, length-replicate, numbers_of, Account, Strike, debts_from, AreGains, IsNoted, owes_at}
 use Rattle.sip_ledger.proofs.debts.ListedLemmas.{listed-none}
 
 -- there are as many entries as there were gains
@@ -28,15 +28,6 @@ pub held_left : (gains : Gains) (m k : ℕ) → (entry_at (entries_of gains) k).
 unfolding is_left
 held_left gains m k is = sym (ap (λ n. holds gains.messages n k) is)
 
--- under no message stands a place at which nothing was gained
-pub not-noted : (gains : Gains) (m k : ℕ) → AreGains gains → gains.end ≤ k → holds gains.messages m k ≡ false
-not-noted gains m k are past = grind (arith, false_from_ne_true)
-
--- empty lists are right gains
-pub none-gained : (gains : Gains) → gains.entries.items ≡ [] → gains.flags.items ≡ [] → gains.end ≡ 0 → gains.messages ≡ [] → ((k : ℕ) → numbers_of gains.musts k ≡ false) → AreGains gains
-unfolding holds
-none-gained gains entries flags end messages musts = grind (arith, nat_tests, true≢false)
-
 -- where nothing was gained there are no entries
 pub none_entries : (gains : Gains) → gains.entries.items ≡ [] → gains.end ≡ 0 → entries_of gains ≡ []
 unfolding entries_of
@@ -63,43 +54,51 @@ pub left-as : (old new : Gains) (k : ℕ) → entry_at (entries_of new) k ≡ en
 unfolding is_left
 left-as old new k same messages = ap (λ (e : Entry). holds new.messages e.message k) same ∙ messages (entry_at (entries_of old) k).message
 
--- where a gain comes with its flags, and stands under its message, the gains are right, and the new one is theirs
+-- where a gain comes with its flags, and its place is noted, the new gain is theirs
 pub gains-more : (old new : Gains) (debt : Debt) (newest : Bool) → AreGains old → new.entries.items ≡ old.entries.items ++ (record { message = debt.message; deadline = debt.deadline }) ∷ [] →
     new.flags.items ≡ old.flags.items ++ (record { must = debt.must; left = true; newest = newest }) ∷ [] → new.end ≡ old.end + 1 → new.end < 2 ^ 64 →
     IsNoted old.end debt old.messages new.messages old.musts new.musts → (newest ≡ true → old.highest ≤ debt.message) →
-    (new.rises ≡ true → AreRising (old.entries.items ++ (record { message = debt.message; deadline = debt.deadline }) ∷ [])) → old.highest ≤ new.highest → debt.message ≤ new.highest →
-    AreGains new × IsGain debt old new
+    (new.rises ≡ true → AreRising (old.entries.items ++ (record { message = debt.message; deadline = debt.deadline }) ∷ [])) → old.highest ≤ new.highest → debt.message ≤ new.highest → IsGain debt old new
 unfolding is_left
 gains-more old new debt newest are entries flags end small noted top rises higher own =
     -- all entries are the old ones and the new one
     let all : entries_of new ≡ entries_of old ++ (record { message = debt.message; deadline = debt.deadline }) ∷ [] = more-entries old new (record { message = debt.message; deadline = debt.deadline }) are.long entries end in
     let count = entries_long old are.long in
     let longer = length-append old.entries.items ((record { message = debt.message; deadline = debt.deadline }) ∷ []) in
-    let gain : IsGain debt old new = grind (arith, nat_tests, all, count, ne_eqb, and-false, eq-eqb) in
-    let right : AreFlags new = grind (arith, nat_tests, length-append, get_or_push, get_or_append_left, cases_eq, left-as, gain, count) in
-    (grind (arith, nat_tests, cases_eq, ne_eqb, and-false, not-noted, get_or_push, get_or_append_left, all, count, entries, longer, rises, right), gain)
+    let right : AreFlags new = grind (arith, nat_tests, length-append, get_or_push, get_or_append_left, cases_eq, ne_eqb, and-false, eq-eqb, left-as, all, count) in
+    record {
+      gained = grind (arith, nat_tests, cases_eq, false_from_ne_true, ne_eqb, and-false, get_or_push, get_or_append_left, all, count, entries, longer, rises, right);
+      entries = all;
+      noted = rw count noted;
+    }
 
--- where the entries, the flags and the places under the messages stay, the gains are right still, and the same
+-- where the entries, the flags and the places under the messages stay, the gains are the same
 pub gains-same : (old new : Gains) → AreGains old → new.entries.items ≡ old.entries.items → new.flags.items ≡ old.flags.items → new.end ≡ old.end →
     ((m k : ℕ) → holds new.messages m k ≡ holds old.messages m k) → ((k : ℕ) → numbers_of new.musts k ≡ numbers_of old.musts k) → new.rises ≡ old.rises → new.highest ≡ old.highest →
-    AreGains new × AreSameGains old new
+    AreSameGains old new
 unfolding entries_of
 gains-same old new are entries flags end messages musts rises highest = grind (arith, nat_tests, left-as)
 
 -- where a gain is let go, and its flags are blank then, the flags are right still
 flags-let_go : (old new : Gains) (place : ℕ) → AreFlags old → length old.entries.items ≤ old.end → IsUndropped old place → new.entries.items ≡ old.entries.items →
-    new.flags.items ≡ set old.flags.items (place - (old.end - length old.entries.items)) no_flags → numbers_of new.musts place ≡ false → IsLetGo place old new → AreFlags new
+    new.flags.items ≡ set old.flags.items (place - (old.end - length old.entries.items)) no_flags → new.end ≡ old.end → entries_of new ≡ entries_of old →
+    ((m : ℕ) → holds new.messages m place ≡ false) → ((m k : ℕ) → k ≢ place → holds new.messages m k ≡ holds old.messages m k) →
+    ((k : ℕ) → numbers_of new.musts k ≡ cond (k == place) false (numbers_of old.musts k)) → AreFlags new
 unfolding is_left
-flags-let_go old new place are long kept entries flags must gone = grind (arith, nat_tests, get_or-set_same, get_or-set_other, length-set, cases_eq, left-as)
+flags-let_go old new place are long kept entries flags end same here others musts =
+    grind (arith, nat_tests, get_or-set_same, get_or-set_other, length-set, cases_eq, eq-eqb, ne_eqb, left-as)
 
--- where a gain is taken from under its message, and its flags are blank then, the gains are right still, and it is let go
+-- where a gain is taken from under its message, and its flags are blank then, it is let go
 pub gains-let_go : (old new : Gains) (place : ℕ) → AreGains old → IsUndropped old place → new.entries.items ≡ old.entries.items →
     new.flags.items ≡ set old.flags.items (place - (old.end - length old.entries.items)) no_flags → new.end ≡ old.end → new.rises ≡ old.rises → new.highest ≡ old.highest →
     ((m k : ℕ) → holds new.messages m k ≡ cond (m == (entry_at (entries_of old) place).message && k == place) false (holds old.messages m k)) →
-    ((k : ℕ) → numbers_of new.musts k ≡ cond (k == place) false (numbers_of old.musts k)) → AreGains new × IsLetGo place old new
+    ((k : ℕ) → numbers_of new.musts k ≡ cond (k == place) false (numbers_of old.musts k)) → IsLetGo place old new
 unfolding entries_of
 gains-let_go old new place are kept entries flags end rises highest messages musts =
-    grind (arith, nat_tests, cases_eq, eq-eqb, ne_eqb, false_from_ne_true, and-false, true≢false, flags-let_go)
+    let here : (m : ℕ) → holds new.messages m place ≡ false = λ m. grind (arith, nat_tests, cases_eq, eq-eqb, false_from_ne_true, true≢false, are.messages m place, messages m place) in
+    let others : (m k : ℕ) → k ≢ place → holds new.messages m k ≡ holds old.messages m k = λ m k other. grind (arith, nat_tests, ne_eqb, and-false, messages m k) in
+    let right : AreFlags new = flags-let_go old new place are.flags are.long kept entries flags end (grind arith) here others musts in
+    grind (arith, nat_tests, cases_eq, eq-eqb, ne_eqb, false_from_ne_true, and-false, true≢false, here, others, right)
 
 -- where the first gains are dropped, none of which is left, with their flags, the gains are right still
 pub gains-dropped : (old new : Gains) (place count : ℕ) → AreGains old → count + (old.end - length old.entries.items) ≡ place → place ≤ old.end →

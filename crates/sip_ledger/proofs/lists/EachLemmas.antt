@@ -13,10 +13,6 @@ module _ {X : Type 0} where
   abbrev pub changing : (X → X) → ℕ → ℕ → List X → List X
   changing f from k xs = take from xs ++ map f (from_to from k xs) ++ drop k xs
 
-  -- no elements stand from one index up to another that is not after it
-  pub from_to-none : (from to : ℕ) (xs : List X) → to ≤ from → from_to from to xs ≡ []
-  from_to-none from to xs le = grind (arith, nat_tests, drop_all, length-take)
-
   -- where the element at k is changed as well, the elements up to the next index are changed
   -- an empty list has no element at k; in any other the changes begin at the first element, or at a later one
   changing-next : (f : X → X) (from k : ℕ) (xs : List X) (d : X) → from ≤ k → k < length xs →
@@ -58,4 +54,4 @@ module _ {X : Type 0} where
   -- where the loop ended at k, which is `to`, or `from` where that is after `to`, the elements up to k are those up to `to`
   pub from_to-end : (from to k : ℕ) (xs : List X) → from ≤ k → to ≤ k → k ≤ to ⊎ k ≤ from → from_to from k xs ≡ from_to from to xs
   from_to-end from to k xs le past (inl within) = let same : k ≡ to = omega (arith, past, within) in ap (λ n. from_to from n xs) same
-  from_to-end from to k xs le past (inr none) = grind (arith, nat_tests, from_to-none)
+  from_to-end from to k xs le past (inr none) = grind (arith, nat_tests, drop_all, length-take)

@@ -1,9 +1,5 @@
--- The front of a list is dropped, or some elements of a list, at rising places, come to its front.
-use Rattle.sip_ledger.proofs.Words.{◌≡◌, ◌++◌, ◌∷◌, [], Bool, true, HasMany, get_or_append_left, get_or_push, length_push, ℕ, zero, suc, ◌+◌, ◌-◌, ◌<◌, ◌≤◌, List, length, take, get_or, set, map, arith, nat_tests, All, All-nil, All-push, refl, All-weaker, IsTrue, cases_eq, cases_lt, length-set, get_or-map, get_or_default, length-map, get_or-set_same, get_or-set_other, get_or-take, length-take-le, same_lists, All-get_or, Rise, drop, copy_within, length-drop, take_at, take_rest}
-
--- where all items are moved to the front by `count` places, and the last ones are left out, the first `count` items are dropped
-pub dropped-first : {X : Type 0} (count len : ℕ) (xs : List X) → len ≡ length xs → count ≤ length xs → take (len - count) (copy_within xs count len 0) ≡ drop count xs
-dropped-first count len xs is few = grind (arith, nat_tests, length-drop, take_at, length-take-le, take_rest)
+-- Some elements of a list, at rising places, come to its front; and at least so many numbers pass a test.
+use Rattle.sip_ledger.proofs.Words.{◌≡◌, ◌++◌, ◌∷◌, [], Bool, true, HasMany, get_or_append_left, get_or_push, length_push, ℕ, zero, suc, ◌+◌, ◌-◌, ◌<◌, ◌≤◌, List, length, take, get_or, set, map, arith, nat_tests, All, All-nil, All-push, refl, All-weaker, IsTrue, cases_eq, cases_lt, length-set, get_or-map, get_or_default, length-map, get_or-set_same, get_or-set_other, get_or-take, length-take-le, same_lists, All-get_or, Rise}
 
 -- each number of a list that rises is at least its place in the list
 pub rise-above : (places : List ℕ) (i : ℕ) → Rise places → i < length places → i ≤ get_or places i 0

@@ -81,17 +81,20 @@ pub record IsNoted (place : ℕ) (debt : Debt) (named named' : List (ℕ × ℕ)
 
 -- a gain of the debt is put after the others, and its place is noted
 pub record IsGain (debt : Debt) (old new : Gains) : Type 0 where
+  pub gained : AreGains new
   pub entries : entries_of new ≡ entries_of old ++ (record { message = debt.message; deadline = debt.deadline }) ∷ []
   pub noted : IsNoted (length (entries_of old)) debt old.messages new.messages old.musts new.musts
 
 -- old and new gains are the same, and stand under the same messages
 pub record AreSameGains (old new : Gains) : Type 0 where
+  pub gained : AreGains new
   pub entries : entries_of new ≡ entries_of old
   pub messages : (m k : ℕ) → holds new.messages m k ≡ holds old.messages m k
   pub musts : (k : ℕ) → numbers_of new.musts k ≡ numbers_of old.musts k
 
 -- the gain at the place is not left any more
 pub record IsLetGo (place : ℕ) (old new : Gains) : Type 0 where
+  pub gained : AreGains new
   pub entries : entries_of new ≡ entries_of old
   pub end : new.end ≡ old.end
   pub long : length new.entries.items ≡ length old.entries.items

@@ -90,16 +90,10 @@ impl Gains {
         requires { AreGains self.now }
         ensures { result ≡ holds self.now.messages message place }
     {
-        if place < self.first() {
+        if place < self.first() || self.end <= place {
             return false;
         }
-        if self.end <= place {
-            return false;
-        }
-        if self.entry(place).message != message {
-            return false;
-        }
-        self.flags(place).left
+        self.entry(place).message == message && self.flags(place).left
     }
 
     /// Whether it is known that no deadline of what is kept is below the moment.
@@ -121,7 +115,6 @@ impl Gains {
     /// Puts a gain after the others. On an error they are as before.
     pub(crate) fn push(&mut self, debt: Debt) -> Result<(), AllocError>
         requires { AreGains self.old }
-        ensures gained { AreGains self.new }
         ensures ok { OnOk result (IsGain debt self.old self.new) }
         ensures err { OnErr result (AreSameGains self.old self.new) }
     {
@@ -156,8 +149,7 @@ impl Gains {
         requires { AreGains self.now }
         ensures { IsNext self.now.messages message from result }
     {
-        let at = self.messages.next(message, from as u64)?;
-        Some(at as usize)
+        Some(self.messages.next(message, from as u64)? as usize)
     }
 
     /// A place from this one on before which no gain from this one on is left: that of the next gain that is left, mostly.
@@ -224,16 +216,14 @@ impl Gains {
         if self.first() <= from && self.flags(from).must {
             return Some(from);
         }
-        let at = self.musts.next_in_both(&self.musts, from as u64)?;
-        Some(at as usize)
+        Some(self.musts.next_in_both(&self.musts, from as u64)? as usize)
     }
 
     /// Lets the gain at the place go: it is not left any more.
     pub(crate) fn let_go(&mut self, place: usize)
         requires gained { AreGains self.old }
         requires kept { IsUndropped self.old place }
-        ensures gained { AreGains self.new }
-        ensures gone { IsLetGo place self.old self.new }
+        ensures { IsLetGo place self.old self.new }
     {
         let message = self.entry(place).message;
         self.messages.take(message, place as u64);
@@ -263,7 +253,12 @@ impl Gains {
 }
 
 /// Puts the place of a gain under its message, and among those of what must be sent if it must. On an error it stands nowhere.
-fn note(messages: &mut Places, musts: &mut Numbers, place: u64, debt: Debt) -> Result<(), AllocError>
+fn note(
+    messages: &mut Places,
+    musts: &mut Numbers,
+    place: u64,
+    debt: Debt,
+) -> Result<(), AllocError>
     requires message { (m : ℕ) → holds messages.old m place ≡ false }
     requires must { numbers_of musts.old place ≡ false }
     ensures ok { OnOk result (IsNoted place debt messages.old messages.new musts.old musts.new) }

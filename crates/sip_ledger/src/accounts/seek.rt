@@ -1,6 +1,6 @@
 //! Where a message is left, for many rows one after another.
-ghost use Rattle.std.specs.Prelude.{◌≡◌, ◌≤◌};
-ghost use Rattle.sip_ledger.specs.inner.Words.{IfSome, OnTrue, AreGains, IsNext, IsSeek};
+ghost use Rattle.std.specs.Prelude.{◌≡◌};
+ghost use Rattle.sip_ledger.specs.inner.Words.{AreGains, IsNext, IsSeek};
 
 use crate::accounts::gains::Gains;
 
@@ -30,8 +30,11 @@ impl Seek {
         ensures seek { IsSeek gains.now message self.new }
         ensures next { IsNext gains.now.messages message from result }
     {
-        if self.tells(from) {
-            return self.place;
+        if self.low <= from {
+            match self.place {
+                Some(at) if at < from => {}
+                place => return place,
+            }
         }
         if gains.has(message, from) {
             return Some(from);
@@ -39,18 +42,5 @@ impl Seek {
         self.low = from;
         self.place = gains.next(message, from);
         self.place
-    }
-
-    /// Whether what the index said last is what it says from this place on.
-    fn tells(&self, from: usize) -> bool
-        ensures { OnTrue result ((self.now.low ≤ from) × IfSome self.now.place (λ at. from ≤ at)) }
-    {
-        if from < self.low {
-            return false;
-        }
-        match self.place {
-            Some(at) => from <= at,
-            None => true,
-        }
     }
 }

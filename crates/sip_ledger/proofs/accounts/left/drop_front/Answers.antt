@@ -4,8 +4,8 @@ use Rattle.sip_ledger.proofs.accounts.left.drop_front.Goals as goal
 -- the gains of one message more have gone
 pub loop-place-preserved : goal.loop-place-preserved
 loop-place-preserved c =
-    cleared-more c.args.gains.now c.loop-place.gains c.let_go.new.self c.args.strikes.now c.args.rows.now c.first_owed-start.result c.loop-place.place c.loop-place.invariant c.let_go.ensures.gone
-    c.let_go.ensures.gained c.first_owed-start.ensures.start (omega arith)
+    cleared-more c.args.gains.now c.loop-place.gains c.let_go.new.self c.args.strikes.now c.args.rows.now c.first_owed-start.result c.loop-place.place c.loop-place.invariant c.let_go.ensures
+    c.first_owed-start.ensures.start (omega arith)
 
 -- what the accounts owe is kept, since only gains before it are dropped
 pub returns : goal.returns

@@ -1,26 +1,24 @@
-use Rattle.sip_ledger.proofs.Lemmas.{ap, arith, common_steps, Entry, Flags, Gains, gains-more, gains-same, leb-true, nat_le, numbers_of, on-error, refl, rules, true, [], ◌++◌, ◌+◌, ◌∙◌, ◌∷◌, ◌≡◌}
+use Rattle.sip_ledger.proofs.Lemmas.{ap, arith, Entry, Flags, Gains, gains-more, gains-same, leb-true, nat_le, numbers_of, on-error, refl, true, [], ◌++◌, ◌+◌, ◌∙◌, ◌∷◌, ◌≡◌}
 use Rattle.sip_ledger.proofs.accounts.gains.Gains.push.Goals as goal
 
 -- where memory is refused for more entries, the gains are the same
-pub returns-in_err-reserve : goal.returns-in_err-reserve
-returns-in_err-reserve c =
-    let all = gains-same c.args.self.now (record c.args.self.now { entries = c.reserve.new.self }) c.requires c.reserve.ensures.items refl refl (λ m k. refl) (λ k. refl) refl refl in
-    record { gained = all.0; ok = first_of (search rules, grind (arith, common_steps)); err = on-error c.from_residual.result c.from_residual.ensures.0 all.1 }
+pub returns-in_err-reserve-clause-err : goal.returns-in_err-reserve-clause-err
+returns-in_err-reserve-clause-err c =
+    on-error c.from_residual.result c.from_residual.ensures.0
+    (gains-same c.args.self.now _ c.requires c.reserve.ensures.items refl refl (λ m k. refl) (λ k. refl) refl refl)
 
--- where memory is refused, the gains are the same
-pub returns-in_err-reserve-2 : goal.returns-in_err-reserve-2
-returns-in_err-reserve-2 c =
-    let all = gains-same c.args.self.now (record c.args.self.now { entries = c.reserve.new.self; flags = c.reserve-2.new.self }) c.requires c.reserve.ensures.items c.reserve-2.ensures.items refl
-    (λ m k. refl) (λ k. refl) refl refl in
-    record { gained = all.0; ok = first_of (search rules, grind (arith, common_steps)); err = on-error c.from_residual-in_err-reserve-2.result c.from_residual-in_err-reserve-2.ensures.0 all.1 }
+-- where memory is refused for more flags, the gains are the same
+pub returns-in_err-reserve-2-clause-err : goal.returns-in_err-reserve-2-clause-err
+returns-in_err-reserve-2-clause-err c =
+    on-error c.from_residual-in_err-reserve-2.result c.from_residual-in_err-reserve-2.ensures.0
+    (gains-same c.args.self.now _ c.requires c.reserve.ensures.items c.reserve-2.ensures.items refl (λ m k. refl) (λ k. refl) refl refl)
 
--- where memory is refused, the gains are the same
-pub returns-in_err-note : goal.returns-in_err-note
-returns-in_err-note c =
+-- where memory is refused for the place, the gains are the same
+pub returns-in_err-note-clause-err : goal.returns-in_err-note-clause-err
+returns-in_err-note-clause-err c =
     let noted = c.in_err-note.ensures.err in
-    let all = gains-same c.args.self.now (record c.args.self.now { entries = c.reserve.new.self; flags = c.reserve-2.new.self; messages = c.note.new.messages; musts = c.note.new.musts }) c.requires
-    c.reserve.ensures.items c.reserve-2.ensures.items refl noted.0 (λ k. ap (λ l. numbers_of l k) noted.1) refl refl in
-    record { gained = all.0; ok = first_of (search rules, grind (arith, common_steps)); err = on-error c.from_residual-in_err-note.result c.from_residual-in_err-note.ensures.0 all.1 }
+    on-error c.from_residual-in_err-note.result c.from_residual-in_err-note.ensures.0
+    (gains-same c.args.self.now _ c.requires c.reserve.ensures.items c.reserve-2.ensures.items refl noted.0 (λ k. ap (λ l. numbers_of l k) noted.1) refl refl)
 
 -- with the new gain, its entry, its flags and its places in the indexes are right
 pub returns : goal.returns
@@ -37,4 +35,4 @@ returns c =
     -- a gain is the newest of its kind where no kept message is greater
     let all = gains-more g new c.args.debt (nat_le g.highest c.args.debt.message) c.requires entries flags refl (omega (arith, end, small)) c.in_ok-note.ensures.ok
     (leb-true g.highest c.args.debt.message) (rw c.deref.ensures.value at c.rise-rises.ensures) (omega (arith, c.max-self.ensures)) (omega (arith, c.max-self.ensures)) in
-    record { gained = all.0; ok = all.1; err = tt }
+    record { ok = all; err = tt }

@@ -6,9 +6,8 @@ pub use Rattle.sip_ledger.proofs.account.FindLemmas.{first-account, first-all, f
 pub use Rattle.sip_ledger.proofs.account.ToldLemmas.{AreAt, at-apart, at-more, at-start, end-other, end-same, IsLeastTo, IsToldTo, least-first, least-first_due, least-found, least-last, least-passed, told-all, told-first, told-more}
 pub use Rattle.sip_ledger.proofs.account.WithoutLemmas.{before-start, first-gain, more-gain, new-gain, without-first, without-last, without-middle}
 pub use Rattle.sip_ledger.proofs.debts.OwedLemmas.{widened-run}
-pub use Rattle.sip_ledger.proofs.gains.LeftLemmas.{entries_long, gains-dropped, gains-let_go, gains-more, gains-same, left-kept, owed-left, rising-push}
-pub use Rattle.sip_ledger.proofs.lists.EachLemmas.{changing, changing-more, on_ok}
-pub use Rattle.sip_ledger.proofs.lists.FrontLemmas.{HasManyBelow, IsKeptTo, kept-all, kept-more, many-more, many-none, rise-above, rise-few}
+pub use Rattle.sip_ledger.proofs.gains.LeftLemmas.{entries_long, gains-dropped, gains-let_go, gains-more, gains-same, left-kept, owed-left}
+pub use Rattle.sip_ledger.proofs.lists.EachLemmas.{changing, changing-more, HasManyBelow, IsKeptTo, kept-all, kept-more, many-more, many-none, rise-above, rise-few, on_ok}
 pub use Rattle.sip_ledger.proofs.lists.PlaceLemmas.{held-updated, range-first, range-none, span-held}
 pub use Rattle.sip_ledger.proofs.rows.PaidLemmas.{account-there, ArePaidTo, gained-grown, gained-more, gained-over, HaveGained, IsExpiring, none-past, paid-grown, paid-next}
 pub use Rattle.sip_ledger.proofs.rows.SeenLemmas.{account-at, AreNamedTo, changed-by, changed-to, on-error, over-to, owes-nothing, pushed-to, row-few, eased-account, softened-account, spanned, unchanged}

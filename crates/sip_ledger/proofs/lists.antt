@@ -1,4 +1,3 @@
 -- Lists of any elements, and the pairs of places.
 pub mod EachLemmas
-pub mod FrontLemmas
 pub mod PlaceLemmas

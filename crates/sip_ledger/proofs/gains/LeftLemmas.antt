@@ -28,11 +28,6 @@ pub held_left : (gains : Gains) (m k : ℕ) → (entry_at (entries_of gains) k).
 unfolding is_left
 held_left gains m k is = sym (ap (λ n. holds gains.messages n k) is)
 
--- where nothing was gained there are no entries
-pub none_entries : (gains : Gains) → gains.entries.items ≡ [] → gains.end ≡ 0 → entries_of gains ≡ []
-unfolding entries_of
-none_entries gains entries end = ap₂ (λ (n : ℕ) (l : List Entry). replicate (n - length l) blank ++ l) end entries
-
 -- deadlines rise over what is kept
 pub rising_kept : (gains : Gains) (i k : ℕ) → AreGains gains → gains.rises ≡ true → IsUndropped gains i → i ≤ k → k < gains.end →
     (entry_at (entries_of gains) i).deadline ≤ (entry_at (entries_of gains) k).deadline
@@ -42,12 +37,6 @@ rising_kept gains i k are rises kept order within = grind (arith, nat_tests, ent
 pub owed-left : (gains : Gains) (strikes : List Strike) (a : Account) (k : ℕ) → owes_at gains strikes a k ≡ true → is_left gains k ≡ true
 unfolding owes_at
 owed-left gains strikes a k is = grind (arith, nat_tests, true≢false)
-
--- all gains with one more are the gains and this one after them
-pub more-entries : (old new : Gains) (entry : Entry) → length old.entries.items ≤ old.end → new.entries.items ≡ old.entries.items ++ entry ∷ [] → new.end ≡ old.end + 1 →
-    entries_of new ≡ entries_of old ++ entry ∷ []
-unfolding entries_of
-more-entries old new entry long entries end = grind (arith, nat_tests, length-append, append_assoc)
 
 -- whether a gain is left depends on its entry and the index alone
 pub left-as : (old new : Gains) (k : ℕ) → entry_at (entries_of new) k ≡ entry_at (entries_of old) k → ((m : ℕ) → holds new.messages m k ≡ holds old.messages m k) → is_left new k ≡ is_left old k
@@ -59,10 +48,11 @@ pub gains-more : (old new : Gains) (debt : Debt) (newest : Bool) → AreGains ol
     new.flags.items ≡ old.flags.items ++ (record { must = debt.must; left = true; newest = newest }) ∷ [] → new.end ≡ old.end + 1 → new.end < 2 ^ 64 →
     IsNoted old.end debt old.messages new.messages old.musts new.musts → (newest ≡ true → old.highest ≤ debt.message) →
     (new.rises ≡ true → AreRising (old.entries.items ++ (record { message = debt.message; deadline = debt.deadline }) ∷ [])) → old.highest ≤ new.highest → debt.message ≤ new.highest → IsGain debt old new
-unfolding is_left
+unfolding entries_of is_left
 gains-more old new debt newest are entries flags end small noted top rises higher own =
     -- all entries are the old ones and the new one
-    let all : entries_of new ≡ entries_of old ++ (record { message = debt.message; deadline = debt.deadline }) ∷ [] = more-entries old new (record { message = debt.message; deadline = debt.deadline }) are.long entries end in
+    let all : entries_of new ≡ entries_of old ++ (record { message = debt.message; deadline = debt.deadline }) ∷ [] =
+    grind (arith, nat_tests, length-append, append_assoc) in
     let count = entries_long old are.long in
     let longer = length-append old.entries.items ((record { message = debt.message; deadline = debt.deadline }) ∷ []) in
     let right : AreFlags new = grind (arith, nat_tests, length-append, get_or_push, get_or_append_left, cases_eq, ne_eqb, and-false, eq-eqb, left-as, all, count) in
@@ -79,25 +69,16 @@ pub gains-same : (old new : Gains) → AreGains old → new.entries.items ≡ ol
 unfolding entries_of
 gains-same old new are entries flags end messages musts rises highest = grind (arith, nat_tests, left-as)
 
--- where a gain is let go, and its flags are blank then, the flags are right still
-flags-let_go : (old new : Gains) (place : ℕ) → AreFlags old → length old.entries.items ≤ old.end → IsUndropped old place → new.entries.items ≡ old.entries.items →
-    new.flags.items ≡ set old.flags.items (place - (old.end - length old.entries.items)) no_flags → new.end ≡ old.end → entries_of new ≡ entries_of old →
-    ((m : ℕ) → holds new.messages m place ≡ false) → ((m k : ℕ) → k ≢ place → holds new.messages m k ≡ holds old.messages m k) →
-    ((k : ℕ) → numbers_of new.musts k ≡ cond (k == place) false (numbers_of old.musts k)) → AreFlags new
-unfolding is_left
-flags-let_go old new place are long kept entries flags end same here others musts =
-    grind (arith, nat_tests, get_or-set_same, get_or-set_other, length-set, cases_eq, eq-eqb, ne_eqb, left-as)
-
 -- where a gain is taken from under its message, and its flags are blank then, it is let go
 pub gains-let_go : (old new : Gains) (place : ℕ) → AreGains old → IsUndropped old place → new.entries.items ≡ old.entries.items →
     new.flags.items ≡ set old.flags.items (place - (old.end - length old.entries.items)) no_flags → new.end ≡ old.end → new.rises ≡ old.rises → new.highest ≡ old.highest →
     ((m k : ℕ) → holds new.messages m k ≡ cond (m == (entry_at (entries_of old) place).message && k == place) false (holds old.messages m k)) →
     ((k : ℕ) → numbers_of new.musts k ≡ cond (k == place) false (numbers_of old.musts k)) → IsLetGo place old new
-unfolding entries_of
+unfolding entries_of is_left
 gains-let_go old new place are kept entries flags end rises highest messages musts =
     let here : (m : ℕ) → holds new.messages m place ≡ false = λ m. grind (arith, nat_tests, cases_eq, eq-eqb, false_from_ne_true, true≢false, are.messages m place, messages m place) in
     let others : (m k : ℕ) → k ≢ place → holds new.messages m k ≡ holds old.messages m k = λ m k other. grind (arith, nat_tests, ne_eqb, and-false, messages m k) in
-    let right : AreFlags new = flags-let_go old new place are.flags are.long kept entries flags end (grind arith) here others musts in
+    let right : AreFlags new = grind (arith, nat_tests, get_or-set_same, get_or-set_other, length-set, cases_eq, eq-eqb, ne_eqb, left-as, here, others) in
     grind (arith, nat_tests, cases_eq, eq-eqb, ne_eqb, false_from_ne_true, and-false, true≢false, here, others, right)
 
 -- where the first gains are dropped, none of which is left, with their flags, the gains are right still
@@ -129,4 +110,4 @@ rising-push entries entry rises last i k e order below = grind (arith, nat_tests
 pub ruleset rising_by_one = (get_or_default, leb-true, nat_tests, rising-push)
 
 -- lemmas for the prover under one name: nothing was gained
-pub ruleset none_gained_yet = (nat_tests, none_entries, true≢false)
+pub ruleset none_gained_yet = (nat_tests, true≢false)

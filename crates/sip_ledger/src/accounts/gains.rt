@@ -41,7 +41,7 @@ pub(crate) struct Gains {
 
 impl Gains {
     /// Nothing was gained.
-    #[tactic(auto, using(crate::proofs::gains::LeftLemmas::none_gained_yet), unfolding(crate::specs::inner::Places::holds))]
+    #[tactic(auto, using(crate::proofs::gains::LeftLemmas::none_gained_yet), unfolding(crate::specs::inner::Places::holds, crate::specs::inner::Accounts::entries_of))]
     pub(crate) fn new(alloc: Global) -> Self
         ensures gained { AreGains result }
         ensures none { entries_of result ≡ [] }
@@ -146,7 +146,6 @@ impl Gains {
 
     /// The first place of the message from this one on that is left.
     pub(crate) fn next(&self, message: u64, from: usize) -> Option<usize>
-        requires { AreGains self.now }
         ensures { IsNext self.now.messages message from result }
     {
         Some(self.messages.next(message, from as u64)? as usize)
@@ -264,14 +263,10 @@ fn note(
     ensures ok { OnOk result (IsNoted place debt messages.old messages.new musts.old musts.new) }
     ensures err { OnErr result (((m k : ℕ) → holds messages.new m k ≡ holds messages.old m k) × (musts.new ≡ musts.old)) }
 {
-    let key = debt.message;
-    messages.put(key, place)?;
-    if !debt.must {
-        return Ok(());
-    }
-    if let Err(refused) = musts.put(place) {
-        messages.take(key, place);
-        return Err(refused);
+    messages.put(debt.message, place)?;
+    if debt.must && musts.put(place).is_err() {
+        messages.take(debt.message, place);
+        return Err(AllocError);
     }
     Ok(())
 }

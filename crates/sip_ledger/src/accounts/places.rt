@@ -114,13 +114,10 @@ impl Places {
     pub(crate) fn span(&self) -> (u64, u64)
         ensures { (m k : ℕ) → holds self.now m k ≡ true → (result.0 ≤ m) × (m ≤ result.1) }
     {
-        let Some(first) = self.pairs.first() else {
-            return (0, 0);
-        };
-        let Some(last) = self.pairs.last() else {
-            return (0, 0);
-        };
-        (first.0, last.0)
+        match (self.pairs.first(), self.pairs.last()) {
+            (Some(first), Some(last)) => (first.0, last.0),
+            _ => (0, 0),
+        }
     }
 }
 

@@ -1,5 +1,4 @@
 //! Where a message is left, for many rows one after another.
-ghost use Rattle.std.specs.Prelude.{◌≡◌};
 ghost use Rattle.sip_ledger.specs.inner.Words.{AreGains, IsNext, IsSeek};
 
 use crate::accounts::gains::Gains;
@@ -14,7 +13,6 @@ pub(crate) struct Seek {
 impl Seek {
     /// From this place on.
     pub(crate) fn new(gains: &Gains, message: u64, low: usize) -> Self
-        requires { AreGains gains.now }
         ensures { IsSeek gains.now message result }
     {
         Seek {

@@ -1,3 +1,2 @@
--- Lists of any elements, and the pairs of places.
+-- Lists of any elements.
 pub mod EachLemmas
-pub mod PlaceLemmas

@@ -3,7 +3,6 @@
 
 mod accounts;
 mod debt;
-mod front;
 mod run;
 
 pub use crate::accounts::Accounts;

@@ -1,6 +1,41 @@
--- Which gains are left, whether their deadlines rise, what is known beside each by its flags, and what changes of that when gains come, are let go or are dropped.
-use Rattle.sip_ledger.proofs.Words.{leb-true, nat_tests, ◌-◌, ◌<◌, ◌≤◌, List, [], ◌∷◌, ◌++◌, length, get_or, arith, cases_lt, cases_eq, get_or_append_left, get_or_push, length_push, Entry, AreRising, ◌≡◌, ◌≢◌, ℕ, Bool, ◌+◌, true, false, drop, set, ap, ◌∙◌, get_or-drop, get_or-set_other, get_or-set_same, length-append, length-drop, length-set, Debt, Gains, AreFlags, AreSameGains, IsDropped, IsGain, IsUndropped, IsLetGo, blank, entries_of, entry_at, is_left, no_flags, holds, suc, ◌^◌, ◌==◌, ◌&&◌, cond, sym, ap₂, replicate, eq-eqb, false_from_ne_true, ne_eqb, true≢false, and-false, append_assoc, get_or-append_right, get_or_default, get_or_past, length-replicate, numbers_of, Account, Strike, debts_from, AreGains, IsNoted, owes_at}
+-- The pairs of messages and places; which gains are left, whether their deadlines rise, what is known beside each by its flags, and what changes of that when gains come, are let go or are dropped.
+use Rattle.sip_ledger.proofs.Words.{leb-true, nat_tests, ◌-◌, ◌<◌, ◌≤◌, List, [], ◌∷◌, ◌++◌, length, get_or, arith, cases_lt, cases_eq, get_or_append_left, get_or_push, length_push, Entry, AreRising, ◌≡◌, ◌≢◌, ℕ, Bool, ◌+◌, true, false, drop, set, ap, ◌∙◌, get_or-drop, get_or-set_other, get_or-set_same, length-append, length-drop, length-set, Debt, Gains, AreFlags, AreSameGains, IsDropped, IsGain, IsUndropped, IsLetGo, blank, entries_of, entry_at, is_left, no_flags, holds, suc, ◌^◌, ◌==◌, ◌&&◌, cond, sym, ap₂, replicate, eq-eqb, false_from_ne_true, ne_eqb, true≢false, and-false, append_assoc, get_or-append_right, get_or_default, get_or_past, length-replicate, numbers_of, Account, Strike, debts_from, AreGains, IsNoted, owes_at, refl, pair_cmp, is_eq, is_gt, BTreeSet, IsKeyRangeOf, IsLowerBound, IsUpperBound, Included, Unbounded, UpdatesBy, IsFrom}
 use Rattle.sip_ledger.proofs.debts.ListedLemmas.{listed-none}
+
+-- where one pair comes or goes, all others are held as before
+pub held-updated : (s n : BTreeSet (ℕ × ℕ)) (message place : ℕ) (here : Bool) → UpdatesBy pair_cmp (pair_cmp (message, place)) s n here →
+    (m k : ℕ) → holds n.keys m k ≡ cond (m == message && k == place) here (holds s.keys m k)
+unfolding holds
+held-updated s n message place here updates m k =
+    let same : is_eq (pair_cmp (message, place) (m, k)) ≡ (m == message && k == place) = grind (arith, nat_tests) in
+    updates.0 (m, k) ∙ ap (λ x. cond x here (holds s.keys m k)) same
+
+-- a pair from there on does not compare as greater
+not_gt-from : (a b c d : ℕ) → IsFrom a b c d → is_gt (pair_cmp (a, b) (c, d)) ≡ false
+not_gt-from a b c d h = let k = h.messages in let n = h.places in grind (arith, nat_tests)
+
+-- the first pair of a range is the first from there on
+pub range-first : (s : BTreeSet (ℕ × ℕ)) (message place : ℕ) (p : ℕ × ℕ) (rest : List (ℕ × ℕ)) → IsKeyRangeOf pair_cmp (Included (message, place)) Unbounded s (p ∷ rest) →
+    (m k : ℕ) → holds s.keys m k ≡ true → IsFrom message place m k → IsFrom p.0 p.1 m k
+unfolding holds
+range-first s message place p rest h m k held from = grind (arith, nat_tests, not_gt-from)
+
+-- where a range is empty, there is no pair from there on
+pub range-none : (s : BTreeSet (ℕ × ℕ)) (message place : ℕ) → IsKeyRangeOf pair_cmp (Included (message, place)) Unbounded s [] → (m k : ℕ) → IsFrom message place m k → holds s.keys m k ≡ false
+unfolding holds
+range-none s message place h m k after = h.5 refl (m, k) (not_gt-from message place m k after, tt)
+
+-- all messages lie between that of the first pair and that of the last one
+pub span-held : (s : BTreeSet (ℕ × ℕ)) (first last : ℕ × ℕ) → IsLowerBound pair_cmp s first → IsUpperBound pair_cmp s last →
+    (m k : ℕ) → holds s.keys m k ≡ true → (first.0 ≤ m) × (m ≤ last.0)
+unfolding holds
+span-held s first last least greatest m k held = grind (arith, nat_tests)
+
+-- where there are no pairs, nothing stands under a message
+pub none_held : (pairs : List (ℕ × ℕ)) → ¬ (0 < length pairs) → (m k : ℕ) → ¬ (holds pairs m k ≡ true)
+unfolding holds
+none_held [] none m k held = true≢false (sym held)
+none_held (pair ∷ pairs) none m k held = none (omega arith)
 
 -- there are as many entries as there were gains
 pub entries_long : (gains : Gains) → length gains.entries.items ≤ gains.end → length (entries_of gains) ≡ gains.end
@@ -12,11 +47,6 @@ pub entry-kept : (gains : Gains) (k : ℕ) → length gains.entries.items ≤ ga
     entry_at (entries_of gains) k ≡ get_or gains.entries.items (k - (gains.end - length gains.entries.items)) blank
 unfolding entries_of
 entry-kept gains k long kept = grind (arith, get_or-append_right, length-replicate)
-
--- the entry at an index of the kept gains is the one at its place
-pub entry_index : (gains : Gains) (k i : ℕ) (e : Entry) → length gains.entries.items ≤ gains.end → IsUndropped gains k → i + (gains.end - length gains.entries.items) ≡ k →
-    e ≡ get_or gains.entries.items i e → e ≡ entry_at (entries_of gains) k
-entry_index gains k i e long kept here is = grind (arith, get_or_default, entry-kept)
 
 -- a gain that is left is kept
 pub left-kept : (gains : Gains) (k : ℕ) → AreGains gains → is_left gains k ≡ true → IsUndropped gains k
@@ -111,3 +141,6 @@ pub ruleset rising_by_one = (get_or_default, leb-true, nat_tests, rising-push)
 
 -- lemmas for the prover under one name: nothing was gained
 pub ruleset none_gained_yet = (nat_tests, true≢false)
+
+-- lemmas for the prover under one name: the gain at a place
+pub ruleset entry_by_place = (entry-kept, get_or_default)

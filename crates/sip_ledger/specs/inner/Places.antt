@@ -34,10 +34,6 @@ pub record IsNextLeft (pairs : List (ℕ × ℕ)) (test : ℕ → Bool) (from me
   pub after : from ≤ message
   pub none_before : (m k : ℕ) → from ≤ m → m < message → test m ≡ true → holds pairs m k ≡ false
 
--- nothing is left of messages from `from` on that pass the test
-abbrev pub NoneLeft : List (ℕ × ℕ) → (ℕ → Bool) → ℕ → Type 0
-NoneLeft pairs test from = (m k : ℕ) → from ≤ m → test m ≡ true → holds pairs m k ≡ false
-
 -- each message under which a place stands is in one set, and each such place in another one; a place stands under one message
 pub record ArePlaces (pairs : List (ℕ × ℕ)) (named placed : List Word) : Type 0 where
   pub messages : (m k : ℕ) → holds pairs m k ≡ true → numbers_of named m ≡ true

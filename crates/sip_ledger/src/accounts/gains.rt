@@ -1,11 +1,9 @@
 //! What the rows gained: one list for all.
 ghost use Rattle.std.specs.Prelude.{◌≡◌, ◌<◌, ◌≤◌, ◌+◌, ◌==◌, ◌&&◌, ◌++◌, ◌∷◌};
-ghost use Rattle.sip_ledger.specs.inner.Words.{ℕ, [], IfSome, IfNone, MatchOption, OnOk, OnErr, cond, length, true, false, OnTrue, AreGains, AreRising, AreSameGains, IsDropped, IsGain, IsUndropped, IsLetGo, IsNext, IsNoted, IsSeek, entries_of, entry_at, flags_at, holds, is_left, least_after, numbers_of};
+ghost use Rattle.sip_ledger.specs.inner.Words.{ℕ, [], IfSome, IfNone, MatchOption, OnOk, OnErr, cond, drop, length, true, false, OnTrue, AreGains, AreRising, AreSameGains, IsDropped, IsGain, IsUndropped, IsLetGo, IsNext, IsNoted, IsSeek, entries_of, entry_at, flags_at, holds, is_left, least_after, numbers_of};
 
 use crate::accounts::places::Places;
-use crate::accounts::seek::Seek;
 use crate::debt::{Debt, Entry};
-use crate::front;
 use sip_numbers::Numbers;
 use std::alloc::{AllocError, Global};
 
@@ -66,7 +64,7 @@ impl Gains {
     }
 
     /// The gain at the place.
-    #[tactic(auto, using(crate::proofs::gains::LeftLemmas::entry_index))]
+    #[tactic(auto, using(crate::proofs::gains::LeftLemmas::entry_by_place))]
     pub(crate) fn entry(&self, place: usize) -> Entry
         requires gained { AreGains self.now }
         requires kept { IsUndropped self.now place }
@@ -246,26 +244,61 @@ impl Gains {
         ensures dropped { IsDropped place self.old self.new }
     {
         let count = place - (self.end - self.entries.len());
-        front::drop_first(&mut self.entries, count);
-        front::drop_first(&mut self.flags, count);
+        drop_first(&mut self.entries, count);
+        drop_first(&mut self.flags, count);
+    }
+}
+
+/// What the index said last of a message: from `low` on it is left at `place` first, or nowhere.
+#[derive(Clone, Copy, Debug)]
+pub(crate) struct Seek {
+    pub low: usize,
+    pub place: Option<usize>,
+}
+
+impl Seek {
+    /// From this place on.
+    pub(crate) fn new(gains: &Gains, message: u64, low: usize) -> Self
+        ensures { IsSeek gains.now message result }
+    {
+        Seek {
+            low,
+            place: gains.next(message, low),
+        }
+    }
+
+    /// The first place from this one on at which the message is left. The index is asked where neither what it said last nor the place itself tells.
+    pub(crate) fn next(&mut self, gains: &Gains, message: u64, from: usize) -> Option<usize>
+        requires gained { AreGains gains.now }
+        requires seek { IsSeek gains.now message self.old }
+        ensures seek { IsSeek gains.now message self.new }
+        ensures next { IsNext gains.now.messages message from result }
+    {
+        if self.low <= from {
+            match self.place {
+                Some(at) if at < from => {}
+                place => return place,
+            }
+        }
+        if gains.has(message, from) {
+            return Some(from);
+        }
+        self.low = from;
+        self.place = gains.next(message, from);
+        self.place
     }
 }
 
 /// Puts the place of a gain under its message, and among those of what must be sent if it must. On an error it stands nowhere.
-fn note(
-    messages: &mut Places,
-    musts: &mut Numbers,
-    place: u64,
-    debt: Debt,
-) -> Result<(), AllocError>
-    requires message { (m : ℕ) → holds messages.old m place ≡ false }
-    requires must { numbers_of musts.old place ≡ false }
-    ensures ok { OnOk result (IsNoted place debt messages.old messages.new musts.old musts.new) }
+fn note(messages: &mut Places, musts: &mut Numbers, at: u64, debt: Debt) -> Result<(), AllocError>
+    requires message { (m : ℕ) → holds messages.old m at ≡ false }
+    requires must { numbers_of musts.old at ≡ false }
+    ensures ok { OnOk result (IsNoted at debt messages.old messages.new musts.old musts.new) }
     ensures err { OnErr result (((m k : ℕ) → holds messages.new m k ≡ holds messages.old m k) × (musts.new ≡ musts.old)) }
 {
-    messages.put(debt.message, place)?;
-    if debt.must && musts.put(place).is_err() {
-        messages.take(debt.message, place);
+    messages.put(debt.message, at)?;
+    if debt.must && musts.put(at).is_err() {
+        messages.take(debt.message, at);
         return Err(AllocError);
     }
     Ok(())
@@ -279,4 +312,14 @@ fn rise(entries: &[Entry], rises: bool, entry: Entry) -> bool
 {
     let count = entries.len();
     count == 0 || (rises && entries[count - 1].deadline <= entry.deadline)
+}
+
+/// Drops the first `count` items.
+pub(crate) fn drop_first<T: Copy + Drop>(items: &mut Vec<T>, count: usize)
+    requires { count ≤ length items.old.items }
+    ensures { items.new.items ≡ drop count items.old.items }
+{
+    let kept = items.len() - count;
+    items.copy_within(count.., 0);
+    items.truncate(kept);
 }

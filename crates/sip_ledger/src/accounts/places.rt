@@ -1,7 +1,7 @@
 //! The places of what is left of each message.
 ghost use Rattle.std.specs.Prelude.{◌≡◌, ◌==◌, ◌&&◌, ◌<◌, ◌≤◌, ℕ, cond, true, false, [], IfSome, IfNone, OnOk, OnErr};
 ghost use Rattle.sip_numbers.specs.Numbers.{numbers_of};
-ghost use Rattle.sip_ledger.specs.inner.Places.{IsFrom, IsNext, IsNextLeft, NoneLeft, holds};
+ghost use Rattle.sip_ledger.specs.inner.Places.{IsFrom, IsNext, IsNextLeft, holds};
 
 use sip_numbers::Numbers;
 use std::alloc::{AllocError, Global};
@@ -31,7 +31,7 @@ impl Model for Places {
 
 impl Places {
     /// No places.
-    #[tactic(auto, using(crate::proofs::lists::PlaceLemmas::none_held))]
+    #[tactic(auto, using(crate::proofs::gains::LeftLemmas::none_held))]
     pub(crate) fn new(alloc: Global) -> Self
         ensures { result ≡ [] }
     {
@@ -94,7 +94,7 @@ impl Places {
     /// The first of these messages from this one on of which a place is here. It may tell one of which none is any more, but passes over none of which one is.
     pub(crate) fn next_among(&self, messages: &Numbers, from: u64) -> Option<u64>
         ensures found { IfSome result (IsNextLeft self.now (numbers_of messages.now) from) }
-        ensures none { IfNone result (NoneLeft self.now (numbers_of messages.now) from) }
+        ensures none { IfNone result ((m k : ℕ) → from ≤ m → numbers_of messages.now m ≡ true → holds self.now m k ≡ false) }
     {
         messages.next_in_both(&self.messages, from)
     }
@@ -110,7 +110,7 @@ impl Places {
     }
 
     /// Two messages: the least and the greatest under which places stand, or 0 and 0 where there are no places.
-    #[tactic(auto, using(crate::proofs::lists::PlaceLemmas::none_held))]
+    #[tactic(auto, using(crate::proofs::gains::LeftLemmas::none_held))]
     pub(crate) fn span(&self) -> (u64, u64)
         ensures { (m k : ℕ) → holds self.now m k ≡ true → (result.0 ≤ m) × (m ≤ result.1) }
     {

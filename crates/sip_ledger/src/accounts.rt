@@ -14,21 +14,18 @@ mod left;
 mod moved;
 mod named;
 mod places;
-mod seek;
 mod strikes;
 
 use crate::accounts::account::{
     Account, EMPTY, debt_for, earliest_must, expired, find, find_first, first_debts,
     gained_and_expired, paid_and_expired, place_for, same,
 };
-use crate::accounts::gains::Gains;
+use crate::accounts::gains::{Gains, Seek, drop_first};
 use crate::accounts::left::{drop_front, let_go};
 use crate::accounts::moved::{held, move_all};
 use crate::accounts::named::name_all;
-use crate::accounts::seek::Seek;
 use crate::accounts::strikes::Strike;
 use crate::debt::Debt;
-use crate::front;
 use crate::run::{Run, runs_of};
 use sip_numbers::Numbers;
 use std::alloc::{AllocError, Global};
@@ -108,7 +105,7 @@ impl Accounts {
         ensures { self.new ≡ drop rows self.old }
     {
         let count = rows.min(self.rows.len());
-        front::drop_first(&mut self.rows, count);
+        drop_first(&mut self.rows, count);
     }
 
     /// Keeps the rows of these numbers, which rise.

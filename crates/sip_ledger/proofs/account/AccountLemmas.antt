@@ -1,5 +1,5 @@
 -- Accounts stay accounts, and owe what they owed, while gains and strikes grow, are let go or are dropped.
-use Rattle.sip_ledger.proofs.Words.{◌+◌, common_steps, max, min, ◌≡◌, ℕ, ◌<◌, ◌≤◌, ◌&&◌, true, false, List, [], ◌∷◌, length, take, drop, get_or, refl, sym, ap, ◌∙◌, subst, arith, nat_tests, All, nat_le, cases_eq, cases_lt, le-leb, le-ltb, lt-leb, true≢false, false_from_ne_true, and-false, and-true, drop-map, get_or_append_left, get_or-map, length-map, length-take, take-map, take-take, All-cons, All-drop, All-get_or, All-head, All-nil, All-tail, All-take, All-weaker, Debt, Account, Gains, Strike, debts_print, AreAccounts, AreGains, AreSameGains, IsAccount, IsDropped, IsGain, IsLetGo, KeepsAccounts, account_debts, accounts_debts, entries_of, entry_at, is_left, is_struck, must_at, owes_at, holds}
+use Rattle.sip_ledger.proofs.Words.{◌+◌, common_steps, max, min, ◌≡◌, ℕ, ◌<◌, ◌≤◌, ◌&&◌, true, false, List, [], ◌∷◌, length, take, drop, get_or, refl, sym, ap, ◌∙◌, subst, arith, nat_tests, All, nat_le, cases_eq, cases_lt, le-leb, le-ltb, lt-leb, ne_eqb, true≢false, false_from_ne_true, and-false, and-true, drop-map, get_or_append_left, get_or-map, length-map, length-take, take-map, take-take, All-cons, All-drop, All-get_or, All-head, All-nil, All-tail, All-take, All-weaker, Debt, Account, Gains, Strike, debts_print, AreAccounts, AreGains, AreSameGains, IsAccount, IsDropped, IsGain, IsLetGo, KeepsAccounts, account_debts, accounts_debts, entries_of, entry_at, is_left, is_struck, must_at, owes_at, holds, numbers_of}
 use Rattle.sip_ledger.proofs.debts.ListedLemmas.{listed-same, listed-none}
 use Rattle.sip_ledger.proofs.gains.LeftLemmas.{entries_long, left-kept, listed-alike, owed-left, left-as}
 
@@ -34,17 +34,17 @@ kept-all gains old new rows kept each =
 -- two accounts with the same `soft` must send the same gains
 pub soft-must : (gains : Gains) (a b : Account) (k : ℕ) → b.soft ≡ a.soft → must_at gains b k ≡ must_at gains a k
 unfolding must_at
-soft-must gains a b k soft = ap (λ s. holds gains.musts 0 k && nat_le s k) soft
+soft-must gains a b k soft = ap (λ s. numbers_of gains.musts k && nat_le s k) soft
 
 -- a gain below `soft` need not be sent
 pub must-below : (gains : Gains) (a : Account) (k : ℕ) → k < a.soft → false ≡ must_at gains a k
 unfolding must_at
-must-below gains a k low = sym (ap (λ b. holds gains.musts 0 k && b) (lt-leb a.soft k low) ∙ and-false (holds gains.musts 0 k))
+must-below gains a k low = sym (ap (λ b. numbers_of gains.musts k && b) (lt-leb a.soft k low) ∙ and-false (numbers_of gains.musts k))
 
 -- a gain from `soft` on must be sent if it must be as it was gained
-pub must-from : (gains : Gains) (a : Account) (k : ℕ) → a.soft ≤ k → holds gains.musts 0 k ≡ must_at gains a k
+pub must-from : (gains : Gains) (a : Account) (k : ℕ) → a.soft ≤ k → numbers_of gains.musts k ≡ must_at gains a k
 unfolding must_at
-must-from gains a k high = sym (ap (λ b. holds gains.musts 0 k && b) (le-leb a.soft k high) ∙ and-true (holds gains.musts 0 k))
+must-from gains a k high = sym (ap (λ b. numbers_of gains.musts k && b) (le-leb a.soft k high) ∙ and-true (numbers_of gains.musts k))
 
 -- two accounts must send the same gains at a place up to whose neighbours both are soft alike
 pub must-alike : (gains : Gains) (one other : Account) (from to k : ℕ) → from ≤ k → k < to → min (max one.soft from) to ≡ min (max other.soft from) to →
@@ -75,7 +75,7 @@ owes-over old new strikes a k entry left = grind (arith, nat_tests)
 -- an account owes over the new gains what it owes over the old ones
 pub record OwesAlike (old new : Gains) (strikes : List Strike) (a : Account) : Type 0 where
   pub owes : (k : ℕ) → owes_at new strikes a k ≡ owes_at old strikes a k
-  pub same : (k : ℕ) → owes_at old strikes a k ≡ true → (entry_at (entries_of new) k ≡ entry_at (entries_of old) k) × (holds new.musts 0 k ≡ holds old.musts 0 k)
+  pub same : (k : ℕ) → owes_at old strikes a k ≡ true → (entry_at (entries_of new) k ≡ entry_at (entries_of old) k) × (numbers_of new.musts k ≡ numbers_of old.musts k)
 
 -- an account that owes alike over old and new gains has the same debts
 over-debts : (old new : Gains) (strikes : List Strike) (a : Account) → length (entries_of old) ≤ length (entries_of new) → a.end ≤ length (entries_of old) →
@@ -109,7 +109,7 @@ dropped-alike old new strikes a place dropped none = grind (arith, nat_tests, ca
 
 -- an account that ends before a new gain owes alike with it
 pub grown-alike : (old new : Gains) (debt : Debt) (strikes : List Strike) (a : Account) → IsGain debt old new → a.end ≤ length (entries_of old) → OwesAlike old new strikes a
-grown-alike old new debt strikes a gain end = grind (arith, nat_tests, cases_lt, owes-over, left-as, past-end, owed-within, get_or_append_left)
+grown-alike old new debt strikes a gain end = grind (arith, nat_tests, cases_lt, ne_eqb, and-false, owes-over, left-as, past-end, owed-within, get_or_append_left)
 
 -- the debts in a row of the list are the debts of the account of that row
 pub row-debts : (gains : Gains) (strikes : List Strike) (rows : List Account) (row : ℕ) (a : Account) → row < length rows → a ≡ get_or rows row a →

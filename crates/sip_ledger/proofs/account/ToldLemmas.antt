@@ -1,5 +1,5 @@
 -- What an account owes, place by place: its debts, whether another account owes the same, and the least deadline of what it must send.
-use Rattle.sip_ledger.proofs.Words.{blank, All, All-head, All-tail, fold, IfSome, list_any, MatchOption, max, min, ◌≡◌, ◌≢◌, ℕ, ◌+◌, ◌<◌, ◌≤◌, ◌==◌, ◌&&◌, ◌||◌, Bool, true, false, List, [], ◌∷◌, ◌++◌, length, refl, sym, ap, ◌∙◌, arith, append-nil, nat_tests, IsTrue, Option, Some, None, ◌↔◌, option_to_list, cases_eq, cases_lt, eq-eqb, eqb-true, false_from_ne_true, true≢false, append_cancel_left, length-append, length-take-le, take-append-le, slice_get, take, take_all, Debt, Account, Gains, Strike, debt_deadlines, earliest, debt_of, AreGains, IsAccount, IsAfter, SharesNext, account_debts, entries_of, entry_at, is_left, is_struck, must_at, owes_at, strikes_of, holds}
+use Rattle.sip_ledger.proofs.Words.{blank, All, All-head, All-tail, fold, IfSome, list_any, MatchOption, max, min, ◌≡◌, ◌≢◌, ℕ, ◌+◌, ◌<◌, ◌≤◌, ◌==◌, ◌&&◌, ◌||◌, Bool, true, false, List, [], ◌∷◌, ◌++◌, length, refl, sym, ap, ◌∙◌, arith, append-nil, nat_tests, IsTrue, Option, Some, None, ◌↔◌, option_to_list, cases_eq, cases_lt, eq-eqb, eqb-true, false_from_ne_true, true≢false, append_cancel_left, length-append, length-take-le, take-append-le, slice_get, take, take_all, Debt, Account, Gains, Strike, debt_deadlines, earliest, debt_of, AreGains, IsAccount, IsAfter, SharesNext, account_debts, entries_of, entry_at, is_left, is_struck, must_at, owes_at, strikes_of, numbers_of}
 use Rattle.sip_ledger.proofs.debts.OwedLemmas.{listed-any}
 use Rattle.sip_ledger.proofs.gains.LeftLemmas.{left-kept, owed-left, rising_kept}
 use Rattle.sip_ledger.proofs.debts.ListedLemmas.{back, back-none, back-set, front, front-gap, front-next, front-on, listed-each, listed-none, listed-same, parts}
@@ -166,7 +166,7 @@ pub record IsLeastTo (gains : Gains) (strikes : List Strike) (a : Account) (from
   pub none : gains.rises ≡ true → least ≡ None
 
 -- a gain that must be sent was gained so, at `soft` or after it
-must-parts : (gains : Gains) (a : Account) (k : ℕ) → must_at gains a k ≡ true → (holds gains.musts 0 k ≡ true) × (a.soft ≤ k)
+must-parts : (gains : Gains) (a : Account) (k : ℕ) → must_at gains a k ≡ true → (numbers_of gains.musts k ≡ true) × (a.soft ≤ k)
 must-parts gains a k is = grind (arith, nat_tests, cases_lt, false_from_ne_true, true≢false, must-below, must-from)
 
 -- What follows is of one account and what it must send, over places from `from` up to `at`.
@@ -195,7 +195,7 @@ module _ (gains : Gains) (strikes : List Strike) (a : Account) where
       least-of (entry_at (entries_of gains) at).deadline (due-there at is owed must) (λ k owed_k must_k. grind (arith, nat_tests, cases_lt, left-kept, owed-left, none k, rising_kept gains at k are rises))
 
   -- where nothing that must be sent was gained from `from` up to the account's end, the least deadline so far is that of all
-  pub least-last : {from : ℕ} (at : ℕ) (least : Option ℕ) → IsLeastTo gains strikes a from least → ((k : ℕ) → from ≤ k → k < at → holds gains.musts 0 k ≡ false) → a.end ≤ at →
+  pub least-last : {from : ℕ} (at : ℕ) (least : Option ℕ) → IsLeastTo gains strikes a from least → ((k : ℕ) → from ≤ k → k < at → numbers_of gains.musts k ≡ false) → a.end ≤ at →
       least ≡ earliest (debt_deadlines (account_debts gains strikes a))
   unfolding account_debts
   least-last at None was gap past =
@@ -205,20 +205,20 @@ module _ (gains : Gains) (strikes : List Strike) (a : Account) where
 
 -- What follows is of an account of which the least deadline is known before the place `from`, and from there up to `at` nothing was gained that must be sent.
 module _ {gains : Gains} {strikes : List Strike} {a : Account} {from at : ℕ} {least : Option ℕ} (was : IsLeastTo gains strikes a from least) (order : from ≤ at)
-    (gap : (k : ℕ) → from ≤ k → k < at → holds gains.musts 0 k ≡ false) where
+    (gap : (k : ℕ) → from ≤ k → k < at → numbers_of gains.musts k ≡ false) where
   -- IsLeastTo goes on over a place that the account does not owe
   pub least-passed : owes_at gains strikes a at ≡ false → IsLeastTo gains strikes a (at + 1) least
   least-passed unowed = grind (arith, nat_tests, cases_lt, cases_eq, true≢false, must-parts, was, gap)
 
   -- IsLeastTo goes on over a place that is owed and must be sent, with its deadline among the others
-  pub least-found : {moment : ℕ} → IsAccount gains strikes a → holds gains.musts 0 at ≡ true → owes_at gains strikes a at ≡ true →
+  pub least-found : {moment : ℕ} → IsAccount gains strikes a → numbers_of gains.musts at ≡ true → owes_at gains strikes a at ≡ true →
       Some moment ≡ earliest ((entry_at (entries_of gains) at).deadline ∷ option_to_list least) → gains.rises ≡ false → IsLeastTo gains strikes a (at + 1) (Some moment)
   least-found account held owed is falls =
       let there = due-there gains strikes a at account owed (sym (must-from gains a at (omega (arith, was.soft, order))) ∙ held) in
       grind (arith, nat_tests, cases_lt, cases_eq, true≢false, must-parts, there, was, gap)
 
   -- where deadlines rise, the first one that is found is the least of all
-  pub least-first_due : {moment : ℕ} → AreGains gains → IsAccount gains strikes a → holds gains.musts 0 at ≡ true → owes_at gains strikes a at ≡ true →
+  pub least-first_due : {moment : ℕ} → AreGains gains → IsAccount gains strikes a → numbers_of gains.musts at ≡ true → owes_at gains strikes a at ≡ true →
       Some moment ≡ earliest ((entry_at (entries_of gains) at).deadline ∷ option_to_list least) → gains.rises ≡ true → Some moment ≡ earliest (debt_deadlines (account_debts gains strikes a))
   least-first_due gained is held owed here rises = grind (arith, nat_tests, cases_lt, true≢false, must-parts, must-from, leading, was, gap)
 

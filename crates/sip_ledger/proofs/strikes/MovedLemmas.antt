@@ -189,9 +189,9 @@ moved-more gains strikes old new rows rows' at d b within was moved each =
     }
 
 -- all accounts are kept where a gain is let go that none of them owes
-pub kept-less : (first old new : Gains) (strikes : List Strike) (rows : List Account) (place : ℕ) → AreKept strikes rows first old → IsLetGo place old new → AreGains new →
+pub kept-less : {first old new : Gains} {strikes : List Strike} {rows : List Account} {place : ℕ} → AreKept strikes rows first old → IsLetGo place old new →
     All (λ a. owes_at old strikes a place ≡ false) rows → AreKept strikes rows first new
-kept-less first old new strikes rows place was gone are unowed =
+kept-less {first} {old} {new} {strikes} {rows} {place} was gone unowed =
     let alike = All-weaker (λ a. owes_at old strikes a place ≡ false) (OwesAlike old new strikes) (λ a none. let_go-alike old new strikes a place gone none) rows unowed in
     grind (arith, over-all old new strikes rows, alike)
 
@@ -200,15 +200,15 @@ pub none-before : (gains : Gains) (strikes : List Strike) (rows : List Account) 
 none-before gains strikes rows place k from early = grind (arith, nat_tests, All-weaker, cases_lt, before-start, past-end)
 
 -- where the gain at the next place is let go, and all accounts start after it, the gains are cleared one place further
-pub cleared-more : (first old new : Gains) (strikes : List Strike) (rows : List Account) (start place : ℕ) → IsClearedTo place strikes rows first old → IsLetGo place old new → AreGains new →
+pub cleared-more : {first old new : Gains} {strikes : List Strike} {rows : List Account} (start place : ℕ) → IsClearedTo place strikes rows first old → IsLetGo place old new →
     StartFrom start rows → place < start → IsClearedTo (place + 1) strikes rows first new
-cleared-more first old new strikes rows start place was gone are from early =
-    let kept = kept-less first old new strikes rows place was.kept gone are (none-before old strikes rows start place from early) in
+cleared-more {first} {old} {new} {strikes} {rows} start place was gone from early =
+    let kept = kept-less was.kept gone (none-before old strikes rows start place from early) in
     grind (arith, nat_tests, cases_eq, kept, gone, was)
 
 -- all accounts are kept where gains are dropped that are cleared
-pub cleared-dropped : (first old new : Gains) (strikes : List Strike) (rows : List Account) (place : ℕ) → IsClearedTo place strikes rows first old → IsDropped place old new → AreGains new →
+pub cleared-dropped : {first old new : Gains} {strikes : List Strike} {rows : List Account} {place : ℕ} → IsClearedTo place strikes rows first old → IsDropped place old new → AreGains new →
     AreKept strikes rows first new
-cleared-dropped first old new strikes rows place was dropped are =
+cleared-dropped {first} {old} {new} {strikes} {rows} {place} was dropped are =
     let all = over-all old new strikes rows (omega (arith, dropped.long)) (λ k d below. dropped-alike old new strikes (get_or rows k d) place dropped was.none) was.kept.accounts.each in
     record { accounts = record { gained = are; each = all.0 }; debts = all.1 ∙ was.kept.debts }

@@ -1,9 +1,8 @@
 //! What one row owes of what was gained.
 ghost use Rattle.std.specs.Prelude.{◌≡◌, ◌≢◌, ◌↔◌, ◌<◌, ◌≤◌, ◌*◌, ◌%◌, ◌^◌, ◌++◌, ◌∷◌, ◌+◌};
-ghost use Rattle.sip_ledger.specs.inner.Words.{[], ℕ, Bool, true, false, Some, IfOk, IfSome, IfNone, IsTrue, OnOk, OnErr, bit_xor, filter, length, option_to_list, take, OnTrue, counts_at, debt_deadlines, earliest, is_timely, paid_by, worth_of, debt_of, Account, AreGains, IsAccount, IsAfter, IsExpiredTo, IsFirstPaying, IsFirstPayable, IsGainAt, IsUndropped, IsNextGain, IsPlaceOf, IsSeek, IsStruck, IsWithout, KeepsAccounts, SharesNext, account_debts, entries_of, entry_at, is_struck, must_at, owes_at, pays_at, softened_account, sooner, strikes_of, HasMany, holds, numbers_of};
+ghost use Rattle.sip_ledger.specs.inner.Words.{[], ℕ, Bool, true, false, Some, IfOk, IfSome, IfNone, IsTrue, OnOk, OnErr, bit_xor, filter, length, option_to_list, take, OnTrue, counts_at, debt_deadlines, earliest, is_timely, paid_by, worth_of, debt_of, Account, AreGains, IsAccount, IsAfter, IsExpiredTo, IsFirstPaying, IsFirstPayable, IsGainAt, IsUndropped, IsNextGain, IsSeek, IsStruck, IsWithout, KeepsAccounts, SharesNext, account_debts, entries_of, entry_at, is_struck, must_at, owes_at, pays_at, softened_account, sooner, strikes_of, HasMany, holds, numbers_of};
 
-use crate::accounts::gains::Gains;
-use crate::accounts::seek::Seek;
+use crate::accounts::gains::{Gains, Seek};
 use crate::accounts::strikes::{Strike, Strikes, are_same, first_alone, put, struck_to};
 use crate::debt::Debt;
 use sip_numbers::Numbers;
@@ -394,7 +393,6 @@ fn shared_place(gains: &Gains, strikes: &[Strike], account: Account, debt: Debt)
 fn takes(gains: &Gains, strikes: &[Strike], account: Account, debt: Debt, place: usize) -> bool
     requires gained { AreGains gains.now }
     requires account { IsAccount gains.now strikes.now account }
-    requires place { IsPlaceOf gains.now debt.message place }
     requires left { holds gains.now.messages debt.message place ≡ true }
     ensures { OnTrue result (IsNextGain gains.now strikes.now account debt place) }
 {

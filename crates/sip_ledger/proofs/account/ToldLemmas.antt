@@ -223,7 +223,7 @@ module _ {gains : Gains} {strikes : List Strike} {a : Account} {from at : ℕ} {
   least-first_due gained is held owed here rises = grind (arith, nat_tests, cases_lt, true≢false, must-parts, must-from, leading, was, gap)
 
 -- lemmas for the prover under one name: what an account owes, from debt to debt
-pub ruleset told_by_place = (kept-start, told-none, told-all)
+pub ruleset told_by_place = (kept-start, told-none, told-first, told-all, take_all)
 
 -- lemmas for the prover under one name: the least deadline of what an account must send first
 pub ruleset led_by_start = (before-start, kept-start, leading)

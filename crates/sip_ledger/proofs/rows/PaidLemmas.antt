@@ -1,12 +1,12 @@
 -- Many rows gain a debt, lose what is past, place by place, or are paid and put after the others.
 -- Of places o tells which are owed at first, o' and o'' which later, and m which must be sent; t is a moment.
-use Rattle.sip_ledger.proofs.Words.{◌≡◌, ℕ, ◌+◌, ◌<◌, ◌≤◌, ◌&&◌, ◌||◌, Bool, true, false, List, length, take, filter, arith, nat_tests, nat_le, and-false, cases_eq, cases_lt, lt-leb, take-length, get_or_default, Entry, Account, Gains, Strike, counts_at, AreGains, IsAccount, IsExpiredTo, IsUndropped, IsWithout, account_debts, entries_of, entry_at, must_at, owes_at, [], ◌∷◌, ◌++◌, drop, get_or, set, map, refl, sym, ap, ◌∙◌, All, fold, min, le-leb, or_right, All-filter, All-get_or, All-head, All-map, All-tail, All-weaker, Debt, debt_deadlines, earliest, is_timely, is_within, AreAccounts, KeepsAccounts, accounts_debts, common_steps, cond, Option, Some, None, IfSome, option_to_list, list_any, take-append_seam, append-nil, append_assoc, get_or_append_left, length-append, map-append, owed_in, paid_rows, is_payable, paid_by, from_to}
+use Rattle.sip_ledger.proofs.Words.{◌≡◌, ℕ, ◌+◌, ◌<◌, ◌≤◌, ◌&&◌, ◌||◌, Bool, true, false, List, length, take, filter, arith, nat_tests, nat_le, and-false, cases_eq, cases_lt, lt-leb, take-length, get_or_default, Entry, Account, Gains, Strike, counts_at, AreGains, IsAccount, IsExpiredTo, IsUndropped, IsWithout, account_debts, entries_of, entry_at, must_at, owes_at, [], ◌∷◌, ◌++◌, drop, get_or, set, map, refl, sym, ap, ◌∙◌, All, fold, min, le-leb, or_right, All-get_or, All-head, All-map, All-push, All-tail, All-weaker, Debt, debt_deadlines, is_timely, AreAccounts, KeepsAccounts, accounts_debts, common_steps, cond, Option, Some, None, IfSome, option_to_list, list_any, take-append_seam, append-nil, append_assoc, get_or_append_left, length-append, length-map, map-append, owed_in, paid_rows, is_payable, paid_by, from_to}
 use Rattle.sip_ledger.proofs.gains.LeftLemmas.{entries_long, rising_kept, left-kept, owed-left}
 use Rattle.sip_ledger.proofs.debts.ListedLemmas.{listed-counting, listed-same, listed-each}
-use Rattle.sip_ledger.proofs.account.AccountLemmas.{empty-debts, kept-start, past-end, soft-must, debts_length}
+use Rattle.sip_ledger.proofs.account.AccountLemmas.{empty-debts, kept-start, past-end, soft-must}
 use Rattle.sip_ledger.proofs.account.WithoutLemmas.{before-start}
 use Rattle.sip_ledger.proofs.lists.EachLemmas.{changing, changing-front, changing-length, changing-more, changing-all, unchanged-each, from_to-end, passing-more}
-use Rattle.sip_ledger.proofs.rows.SeenLemmas.{changed-by, on-error, over-to, unchanged, account-at, can-pay, pushed-to, row-inside}
+use Rattle.sip_ledger.proofs.rows.SeenLemmas.{changed-by, on-error, over-to, unchanged, account-at, can-pay, row-inside}
 use Rattle.sip_ledger.proofs.debts.OwedLemmas.{unpaid-is}
 use Rattle.sip_ledger.proofs.account.FindLemmas.{paid-account, unpaid-account}
 
@@ -64,30 +64,26 @@ none-goes gains strikes a t are late =
 -- where no gain that is kept is past, what many rows owe is as it is once what is past is dropped from some
 pub none-past : (gains : Gains) (strikes : List Strike) (rows : List Account) (seen : List (List Debt)) (from t : ℕ) → AreGains gains → accounts_debts gains strikes rows ≡ seen →
     ((k : ℕ) → IsUndropped gains k → t ≤ (entry_at (entries_of gains) k).deadline) → seen ≡ take from seen ++ map (filter (counts_at t)) (drop from seen)
-unfolding accounts_debts
 none-past gains strikes rows seen from t are view late =
     let none = All-map (λ (owes : List Debt). filter (counts_at t) owes ≡ owes) (account_debts gains strikes) rows (λ k d below. none-goes gains strikes (get_or rows k d) t are late) in grind (arith, none, unchanged-each, All-get_or)
 
--- the least of moments that are not before t is not before it
-least-late : (t x : ℕ) (ms : List ℕ) → t ≤ x → All (λ m. t ≤ m) ms → t ≤ fold min x ms
+-- where no debt is past, the least of a moment that is not past and of the deadlines of what must be sent is not past
+least-late : (t x : ℕ) (debts : List Debt) → t ≤ x → All (λ d. t ≤ d.deadline) debts → t ≤ fold min x (debt_deadlines debts)
 least-late t x [] low all = low
-least-late t x (m ∷ ms) low all = least-late t (min x m) ms (omega (arith, low, All-head (λ n. t ≤ n) m ms all)) (All-tail (λ n. t ≤ n) m ms all)
+least-late t x (d ∷ debts) low all = grind (arith, nat_tests, All-head (λ d. t ≤ d.deadline) d debts all, All-tail (λ d. t ≤ d.deadline) d debts all, least-late t x debts, least-late t (min x d.deadline) debts)
 
--- where no moment is before t, t is within the earliest of them
-within-all : (t : ℕ) (ms : List ℕ) → All (λ m. t ≤ m) ms → is_within t (earliest ms) ≡ true
-within-all t [] all = refl
-within-all t (m ∷ ms) all = le-leb t (fold min m ms) (least-late t m ms (All-head (λ n. t ≤ n) m ms all) (All-tail (λ n. t ≤ n) m ms all))
+-- where no debt is past, nothing that must be sent is
+timely-all : (t : ℕ) (debts : List Debt) → All (λ d. t ≤ d.deadline) debts → is_timely t debts ≡ true
+timely-all t [] all = refl
+timely-all t (d ∷ debts) all = grind (arith, nat_tests, le-leb, All-head (λ d. t ≤ d.deadline) d debts all, All-tail (λ d. t ≤ d.deadline) d debts all, least-late t d.deadline debts, timely-all t debts)
 
 -- where no gain is past, a row is timely
 pub none_late : (gains : Gains) (strikes : List Strike) (a : Account) (t : ℕ) → AreGains gains → ((k : ℕ) → IsUndropped gains k → t ≤ (entry_at (entries_of gains) k).deadline) →
     is_timely t (account_debts gains strikes a) ≡ true
-none_late gains strikes a t are late =
-    let must = filter (λ (d : Debt). d.must) (account_debts gains strikes a) in
-    within-all t (debt_deadlines (account_debts gains strikes a))
-    (All-map (λ m. t ≤ m) (λ (d : Debt). d.deadline) must (All-filter (λ (d : Debt). d.must) (λ (d : Debt). t ≤ d.deadline) (account_debts gains strikes a) (debts-late gains strikes a t are late)))
+none_late gains strikes a t are late = timely-all t (account_debts gains strikes a) (debts-late gains strikes a t are late)
 
 -- lemmas for the prover under one name: what rows owe once some of them have gained a debt
-pub ruleset gained_by_rows = (changing-all, debts_length, gained-front, gained-grown, gained-more, gained-over, on-error)
+pub ruleset gained_by_rows = (changing-all, length-map, gained-front, gained-grown, gained-more, gained-over, on-error)
 
 -- the debts that a payment leaves
 abbrev pub left_by : ℕ → ℕ → List Debt → List Debt
@@ -135,12 +131,10 @@ module _ {gains : Gains} {message t from k : ℕ} {old : List (List Debt)} {stri
       map (account_debts gains strikes) (option_to_list left) ≡ paid_rows message t (owes ∷ []) → owes ≡ owed_in old k → from ≤ k → k < length old →
       ArePaidTo gains message t from (k + 1) old strikes (rows ++ option_to_list left)
   paid-next owes None are is debts same low within = grind (arith, append-nil, next-left message t from k old owes [])
-  paid-next owes (Some b) are is debts same low within =
-      let put = pushed-to b (account_debts gains strikes b) are.accounts are.debts is refl in
-      record {
-        accounts = put.0;
-        debts = grind (arith, put, append_assoc, next-left message t from k old owes (account_debts gains strikes b ∷ []));
-      }
+  paid-next owes (Some b) are is debts same low within = record {
+    accounts = record { gained = are.accounts.gained; each = All-push (IsAccount gains strikes) rows b are.accounts.each is };
+    debts = grind (arith, map-append, append_assoc, next-left message t from k old owes (account_debts gains strikes b ∷ []));
+  }
 
   -- the first rows are the old ones still
   pub paid-front : (n : ℕ) → ArePaidTo gains message t from k old strikes rows → n ≡ length old → take n (accounts_debts gains strikes rows) ≡ old
@@ -150,7 +144,7 @@ module _ {gains : Gains} {message t from k : ℕ} {old : List (List Debt)} {stri
 pub ruleset paid_of_row = (paid-account, unpaid-account, unpaid-is, other-row, paid-row, can-pay)
 
 -- lemmas for the prover under one name: what a send pays of many rows
-pub ruleset paid_of_rows = (from_to-end, debts_length, account-there, paid-front, paid-grown, paid-next, row-there, on-error)
+pub ruleset paid_of_rows = (from_to-end, length-map, account-there, paid-front, paid-grown, paid-next, row-there, on-error)
 
 -- IsExpiredTo holds at the start of an account: nothing is owed before it
 pub expired-start : (t : ℕ) (gains : Gains) (strikes : List Strike) (m : ℕ → Bool) (a : Account) →

@@ -23,7 +23,7 @@ pub use Rattle.sip_ledger.specs.declared.accounts.strikes.Strike.{Strike}
 pub use Rattle.sip_ledger.specs.declared.debt.Debt.{Debt}
 pub use Rattle.sip_ledger.specs.declared.debt.Entry.{Entry}
 pub use Rattle.sip_ledger.specs.declared.run.Run.{Run}
-pub use Rattle.sip_ledger.specs.inner.Accounts.{AreAccounts, AreAppended, AreFlags, AreGains, AreKept, AreMoved, AreRising, AreSameGains, AreStruckToo, EndsWith, IsAccount, IsAfter, IsClearedTo, IsDropped, IsExpiredTo, IsFirstPaying, IsFirstPayable, IsGain, IsGainAt, IsUndropped, IsLetGo, IsMoved, IsNext, IsNextGain, IsNoneBetween, IsNoted, IsPlaceOf, IsSeek, IsStruck, IsWithout, IsWritten, KeepsAccounts, Lengthens, PaysSomeAt, Reaches, SharesNext, StartFrom, StrikeToo, StrikesNoneFrom, blank, entry_at, flags_at, is_out, least_after, no_flags, pays_at, softened_account, sooner, strikes_of}
+pub use Rattle.sip_ledger.specs.inner.Accounts.{accounts_debts, AreAccounts, AreAppended, AreFlags, AreGains, AreKept, AreMoved, AreRising, AreSameGains, AreStruckToo, EndsWith, IsAccount, IsAfter, IsClearedTo, IsDropped, IsExpiredTo, IsFirstPaying, IsFirstPayable, IsGain, IsGainAt, IsUndropped, IsLetGo, IsMoved, IsNext, IsNextGain, IsNoted, IsPlaceOf, IsSeek, IsStruck, IsWithout, IsWritten, KeepsAccounts, PaysSomeAt, Reaches, SharesNext, StartFrom, StrikeToo, StrikesNoneFrom, blank, entry_at, flags_at, is_out, least_after, no_flags, pays_at, softened_account, sooner, strikes_of}
 pub use Rattle.sip_ledger.specs.inner.Places.{ArePlaces, IsNextLeft, NoneLeft}
 unfoldable pub use Rattle.sip_numbers.specs.Numbers.{numbers_of}
-unfoldable pub use Rattle.sip_ledger.specs.inner.Accounts.{account_debts, accounts_debts, entries_of, is_left, is_struck, must_at, owes_at}
+unfoldable pub use Rattle.sip_ledger.specs.inner.Accounts.{account_debts, entries_of, is_left, is_struck, must_at, owes_at}

@@ -69,29 +69,14 @@ pub back-set : (o m : ℕ → Bool) (entries : List Entry) (k : ℕ) (e : Entry)
     back o m entries k ≡ debt_of (get_or entries k e) (m k) ∷ back o m entries (k + 1)
 back-set o m entries k e within is = grind (arith, nat_tests, common_steps, back-at)
 
--- where k is not owed, the debts from k on are those from k + 1 on
-pub back-unset : (o m : ℕ → Bool) (entries : List Entry) (k : ℕ) → k < length entries → o k ≡ false → back o m entries k ≡ back o m entries (k + 1)
-back-unset o m entries k within is =
-    back-at o m entries k blank within
-    ∙ ap (λ b. cond b (debt_of (get_or entries k blank) (m k) ∷ back o m entries (k + 1)) (back o m entries (k + 1))) is
-
 -- where no place from k on is owed, there are no debts from k on
 pub back-none : (o m : ℕ → Bool) (entries : List Entry) (k : ℕ) → ((j : ℕ) → k ≤ j → o j ≡ false) → back o m entries k ≡ []
 back-none o m entries k none = listed-none o m k (drop k entries) (λ j from below. none j from)
-
--- where nothing is owed from a place on, the debts are those before it
-pub listed-front : (o m : ℕ → Bool) (entries : List Entry) (at : ℕ) → at ≤ length entries → ((k : ℕ) → at ≤ k → o k ≡ false) → debts_from o m 0 entries ≡ front o m entries at
-listed-front o m entries at within last = parts o m entries at within ∙ ap (λ l. front o m entries at ++ l) (back-none o m entries at last) ∙ append-nil (front o m entries at)
 
 -- where the same places before k are owed and must be sent, the debts before k are the same
 pub front-same : (o m o' m' : ℕ → Bool) (entries : List Entry) (k : ℕ) → k ≤ length entries → ((j : ℕ) → j < k → (o j ≡ o' j) × (m j ≡ m' j)) →
     front o m entries k ≡ front o' m' entries k
 front-same o m o' m' entries k within agree = grind (arith, nat_tests, listed-same, length-take-le)
-
--- where the same places from k on are owed and must be sent, the debts from k on are the same
-pub back-same : (o m o' m' : ℕ → Bool) (entries : List Entry) (k : ℕ) → ((j : ℕ) → k ≤ j → (o j ≡ o' j) × (m j ≡ m' j)) →
-    back o m entries k ≡ back o' m' entries k
-back-same o m o' m' entries k agree = listed-same o m o' m' k (drop k entries) (λ j from below. agree j from)
 
 -- where the places that stay owed are those whose debts count still at t, the debts are those that count still
 pub listed-counting : (t : ℕ) (o m o' : ℕ → Bool) (i : ℕ) (xs : List Entry) →

@@ -6,7 +6,7 @@ use Rattle.sip_ledger.proofs.debts.ListedLemmas.{listed-counting, listed-same, l
 use Rattle.sip_ledger.proofs.account.AccountLemmas.{empty-debts, kept-start, past-end, soft-must}
 use Rattle.sip_ledger.proofs.account.WithoutLemmas.{before-start}
 use Rattle.sip_ledger.proofs.lists.EachLemmas.{changing, changing-front, changing-length, changing-more, changing-all, unchanged-each, from_to-end, passing-more}
-use Rattle.sip_ledger.proofs.rows.SeenLemmas.{changed-by, on-error, over-to, unchanged, account-at, can-pay, row-inside}
+use Rattle.sip_ledger.proofs.rows.SeenLemmas.{changed-by, on-error, over-to, unchanged, account-at, can-pay}
 use Rattle.sip_ledger.proofs.debts.OwedLemmas.{unpaid-is}
 use Rattle.sip_ledger.proofs.account.FindLemmas.{paid-account, unpaid-account}
 
@@ -37,10 +37,6 @@ module _ {debt : Debt} {from k : ℕ} {old : List (List Debt)} {gains : Gains} {
       let inside : k < length (changing (with_debt debt) from k old) = omega (arith, within, changing-length (with_debt debt) from k old low) in
       let all = changed-by (with_debt debt) new k a b kept are.accounts are.debts inside is account debts in
       record { accounts = all.0; debts = all.1 ∙ changing-more (with_debt debt) from k old [] low within }
-
-  -- the rows before `from` owe what they owed
-  pub gained-front : HaveGained debt from k old gains strikes rows → from ≤ k → take from (accounts_debts gains strikes rows) ≡ take from old
-  gained-front are low = ap (take from) are.debts ∙ changing-front (with_debt debt) from k old low
 
 -- where no debt is past, none goes
 kept-each : (t : ℕ) (xs : List Debt) → All (λ d. counts_at t d ≡ true) xs → filter (counts_at t) xs ≡ xs
@@ -83,20 +79,11 @@ pub none_late : (gains : Gains) (strikes : List Strike) (a : Account) (t : ℕ) 
 none_late gains strikes a t are late = timely-all t (account_debts gains strikes a) (debts-late gains strikes a t are late)
 
 -- lemmas for the prover under one name: what rows owe once some of them have gained a debt
-pub ruleset gained_by_rows = (changing-all, length-map, gained-front, gained-grown, gained-more, gained-over, on-error)
-
--- the debts that a payment leaves
-abbrev pub left_by : ℕ → ℕ → List Debt → List Debt
-left_by message t owes = filter (counts_at t) (paid_by message t owes)
+pub ruleset gained_by_rows = (changing-all, length-map, changing-front, gained-grown, gained-more, gained-over, on-error)
 
 -- a row with no debt that the send pays is left out
 pub other-row : (message t : ℕ) (owes : List Debt) → list_any (is_payable message t) owes ≡ false → [] ≡ paid_rows message t (owes ∷ [])
-other-row message t owes none = ap (λ b. map (left_by message t) (cond b (owes ∷ []) [])) (sym (ap (λ b. b && is_timely t owes) none))
-
--- a row that is paid stands there with what is left to it
-pub paid-row : (message t : ℕ) (owes debts : List Debt) → list_any (is_payable message t) owes ≡ true → is_timely t owes ≡ true → debts ≡ left_by message t owes →
-    debts ∷ [] ≡ paid_rows message t (owes ∷ [])
-paid-row message t owes debts some timely same = grind (arith)
+other-row message t owes none = ap (λ b. map (λ owes. filter (counts_at t) (paid_by message t owes)) (cond b (owes ∷ []) [])) (sym (ap (λ b. b && is_timely t owes) none))
 
 -- the paid rows up to the next one are those up to this one, and this one if it is paid
 next-left : (message t from k : ℕ) (old : List (List Debt)) (owes : List Debt) (d : List (List Debt)) → d ≡ paid_rows message t (owes ∷ []) → owes ≡ owed_in old k → from ≤ k →
@@ -110,10 +97,6 @@ pub record ArePaidTo (gains : Gains) (message t from k : ℕ) (old : List (List 
 
 -- What follows is of the rows from `from` up to k, of which a send of a message at the moment t pays a debt one after the other.
 module _ {gains : Gains} {message t from k : ℕ} {old : List (List Debt)} {strikes : List Strike} {rows : List Account} where
-  -- a row of the old ones is one of the accounts
-  pub row-there : (row : ℕ) → ArePaidTo gains message t from k old strikes rows → row < length old → row < length rows
-  row-there row are within = row-inside row are.accounts are.debts (omega (arith, within, length-append old (paid_rows message t (from_to from k old))))
-
   -- a row of the old ones is one of the accounts, with the debts that it had
   pub account-there : (row : ℕ) (a : Account) → ArePaidTo gains message t from k old strikes rows → row < length old → a ≡ get_or rows row a →
       IsAccount gains strikes a × (account_debts gains strikes a ≡ owed_in old row)
@@ -136,24 +119,11 @@ module _ {gains : Gains} {message t from k : ℕ} {old : List (List Debt)} {stri
     debts = grind (arith, map-append, append_assoc, next-left message t from k old owes (account_debts gains strikes b ∷ []));
   }
 
-  -- the first rows are the old ones still
-  pub paid-front : (n : ℕ) → ArePaidTo gains message t from k old strikes rows → n ≡ length old → take n (accounts_debts gains strikes rows) ≡ old
-  paid-front n are is = grind (arith, take-append_seam)
-
 -- lemmas for the prover under one name: what a send pays of one row
-pub ruleset paid_of_row = (paid-account, unpaid-account, unpaid-is, other-row, paid-row, can-pay)
+pub ruleset paid_of_row = (paid-account, unpaid-account, unpaid-is, other-row, can-pay)
 
 -- lemmas for the prover under one name: what a send pays of many rows
-pub ruleset paid_of_rows = (from_to-end, length-map, account-there, paid-front, paid-grown, paid-next, row-there, on-error)
-
--- IsExpiredTo holds at the start of an account: nothing is owed before it
-pub expired-start : (t : ℕ) (gains : Gains) (strikes : List Strike) (m : ℕ → Bool) (a : Account) →
-    IsExpiredTo t (entries_of gains) m (owes_at gains strikes a) (owes_at gains strikes a) a.start
-expired-start t gains strikes m a = grind (arith, nat_tests, before-start)
-
--- IsExpiredTo goes on over a gain that must be sent
-pub stays-must : (t : ℕ) (entries : List Entry) (m o o' : ℕ → Bool) (place : ℕ) → IsExpiredTo t entries m o o' place → m place ≡ true → IsExpiredTo t entries m o o' (place + 1)
-stays-must t entries m o o' place was must = grind (arith)
+pub ruleset paid_of_rows = (from_to-end, length-map, account-there, length-append, paid-grown, paid-next, take-append_seam, on-error)
 
 -- where the gain at the place is past, may be sent, and is taken out, the account has expired one place further
 pub goes : (t : ℕ) (entries : List Entry) (m o o' o'' : ℕ → Bool) (place : ℕ) → IsExpiredTo t entries m o o' place → (entry_at entries place).deadline < t → m place ≡ false →
@@ -191,4 +161,4 @@ pub record IsExpiring (gains : Gains) (old new : List Strike) (a b : Account) (t
   pub gone : IsExpiredTo t (entries_of gains) (must_at gains a) (owes_at gains old a) (owes_at gains new b) place
 
 -- lemmas for the prover under one name: what is owed once what is past is dropped
-pub ruleset expired_by_place = (soft-must, goes, stays-must, take-length, empty-debts, entries_long, kept-start, expired-end, expired-rising, expired-start, none-goes)
+pub ruleset expired_by_place = (soft-must, goes, take-length, empty-debts, entries_long, kept-start, expired-end, expired-rising, before-start, none-goes)

@@ -3,7 +3,7 @@ use Rattle.sip_ledger.proofs.Words.{◌≡◌, ℕ, ◌+◌, ◌<◌, ◌≤◌,
 use Rattle.sip_ledger.proofs.debts.ListedLemmas.{listed-each, listed-few, listed-softened}
 use Rattle.sip_ledger.proofs.account.AccountLemmas.{kept-start, empty-account, empty-debts, kept-all, must-below, owed-within}
 use Rattle.sip_ledger.proofs.gains.LeftLemmas.{entries_long, held_left, owed-left}
-use Rattle.sip_ledger.proofs.debts.OwedLemmas.{listed-any, some-debt}
+use Rattle.sip_ledger.proofs.debts.OwedLemmas.{listed-any}
 use Rattle.sip_ledger.proofs.account.FindLemmas.{unpaid-account}
 use Rattle.sip_ledger.proofs.account.ToldLemmas.{told-start}
 
@@ -90,11 +90,14 @@ eased-account gains strikes a debt place gained is next none =
 -- an account that does not end where it starts owes something
 nothing-owed : (gains : Gains) (strikes : List Strike) (a : Account) → IsAccount gains strikes a → a.start ≢ a.end → account_debts gains strikes a ≢ []
 unfolding account_debts
-nothing-owed gains strikes a is other none = some-debt (entries_of gains) (owes_at gains strikes a) (must_at gains a) a.start (omega (arith, is.order, is.end, other)) (is.begins (omega (arith, is.order, other))) none
+nothing-owed gains strikes a is other none =
+    let some = listed-any (λ (debt : Debt). true) (entries_of gains) (owes_at gains strikes a) (must_at gains a) a.start (omega (arith, is.order, is.end, other)) (is.begins (omega (arith, is.order, other))) refl in
+    true≢false (sym some ∙ ap (list_any (λ (debt : Debt). true)) none)
 
 -- an account owes nothing exactly if it ends where it starts
-pub owes-nothing : (gains : Gains) (strikes : List Strike) (a : Account) → IsAccount gains strikes a → IsTrue (a.start == a.end) ↔ (account_debts gains strikes a ≡ [])
-owes-nothing gains strikes a is = grind (arith, nat_tests, empty-debts, eqb-true, cases_eq, eq-eqb, nothing-owed)
+pub owes-nothing : (gains : Gains) (strikes : List Strike) (a : Account) (debts : List Debt) → IsAccount gains strikes a → account_debts gains strikes a ≡ debts →
+    IsTrue (a.start == a.end) ↔ (debts ≡ [])
+owes-nothing gains strikes a debts is owes = grind (arith, nat_tests, empty-debts, eqb-true, cases_eq, eq-eqb, nothing-owed)
 
 -- a send pays one of the debts of an account exactly if a first one is found
 pub can-pay : (gains : Gains) (strikes : List Strike) (a : Account) (message t : ℕ) (found : Option ℕ) → IsAccount gains strikes a →
@@ -109,7 +112,7 @@ can-pay gains strikes a message t None is some none = grind (arith, nat_tests, l
 pub ruleset of_changed_row = (account-at, map-set, map-append, All-set, All-push, length-map, empty-account, empty-debts)
 
 -- lemmas for the prover under one name: what contracts see of rows, by their accounts
-pub ruleset of_rows = (length-map, account-at, owes-nothing, All-cons, All-nil, can-pay, on-err, on-error, over-to, unchanged, All-take, take-map, All-drop, drop-map, drop_min)
+pub ruleset of_rows = (length-map, account-at, All-cons, All-nil, can-pay, on-err, on-error, over-to, unchanged, All-take, take-map, All-drop, drop-map, drop_min)
 
 -- lemmas for the prover under one name: what a row owes first
 pub ruleset first_of_rows = (account-at, length-map, empty-debts, entries_long, kept-start, told-start)

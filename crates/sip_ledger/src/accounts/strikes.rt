@@ -1,6 +1,6 @@
 //! What is not owed of what was gained.
 ghost use Rattle.std.specs.Prelude.{◌≡◌, ◌<◌, ◌≤◌, ◌+◌, ◌++◌};
-ghost use Rattle.sip_ledger.specs.inner.Words.{ℕ, true, false, IfOk, IfSome, IfNone, OnOk, OnErr, filter, length, take, nat_lt, OnTrue, OnFalse, from_to, AreGains, AreStruckToo, IsUndropped, IsStruck, IsWritten, Reaches, StrikeToo, is_out, is_struck};
+ghost use Rattle.sip_ledger.specs.inner.Words.{ℕ, true, false, IfOk, IfSome, IfNone, OnOk, OnErr, filter, length, take, nat_lt, OnTrue, from_to, AreGains, AreStruckToo, IsUndropped, IsStruck, Reaches, StrikeToo, is_out, is_struck};
 
 use crate::accounts::account::{Account, Made};
 use crate::accounts::gains::Gains;

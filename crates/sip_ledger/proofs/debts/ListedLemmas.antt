@@ -69,10 +69,6 @@ pub back-set : (o m : ℕ → Bool) (entries : List Entry) (k : ℕ) (e : Entry)
     back o m entries k ≡ debt_of (get_or entries k e) (m k) ∷ back o m entries (k + 1)
 back-set o m entries k e within is = grind (arith, nat_tests, common_steps, back-at)
 
--- where no place from k on is owed, there are no debts from k on
-pub back-none : (o m : ℕ → Bool) (entries : List Entry) (k : ℕ) → ((j : ℕ) → k ≤ j → o j ≡ false) → back o m entries k ≡ []
-back-none o m entries k none = listed-none o m k (drop k entries) (λ j from below. none j from)
-
 -- where the same places before k are owed and must be sent, the debts before k are the same
 pub front-same : (o m o' m' : ℕ → Bool) (entries : List Entry) (k : ℕ) → k ≤ length entries → ((j : ℕ) → j < k → (o j ≡ o' j) × (m j ≡ m' j)) →
     front o m entries k ≡ front o' m' entries k

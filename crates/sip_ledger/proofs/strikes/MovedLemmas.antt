@@ -1,6 +1,6 @@
 -- Which gains the strikes of an account strike, once strikes are longer, written anew or looked for, and gains are let go: m is a message, and k a place.
 -- sm is the message of a strike, and mp that of the gain at a place.
-use Rattle.sip_ledger.proofs.Words.{◌≡◌, ℕ, zero, suc, ◌+◌, ◌-◌, ◌<◌, ◌≤◌, ◌==◌, ◌&&◌, ◌||◌, Bool, true, false, List, [], ◌∷◌, ◌++◌, length, take, drop, get_or, set, filter, refl, sym, ap, ap₂, ◌∙◌, arith, nat_le, nat_lt, list_any, or-false, or_assoc, true≢false, nat_tests, list_any-append, list_any_at, take-append_seam, drop-append_seam, drop-append-le, drop-set-add, get_or_default, get_or-drop, length-drop, take-append-le, take-set-le, take_more, Account, Strike, Gains, IsWritten, Reaches, StrikeToo, entries_of, entry_at, is_left, is_struck, strikes_of, is_out, All, cases_eq, cases_lt, All-push, All-weaker, AreGains, AreKept, IsClearedTo, IsDropped, IsLetGo, StartFrom, owes_at, common_steps, map, max, false_from_ne_true, or_parts, append_assoc, map-append, All-get_or, All-nil, AreAppended, AreMoved, AreStruckToo, IsAccount, IsMoved, StrikesNoneFrom, account_debts, holds}
+use Rattle.sip_ledger.proofs.Words.{◌≡◌, ℕ, zero, suc, ◌+◌, ◌-◌, ◌<◌, ◌≤◌, ◌==◌, ◌&&◌, ◌||◌, Bool, true, false, List, [], ◌∷◌, ◌++◌, length, take, drop, get_or, set, filter, refl, sym, ap, ap₂, ◌∙◌, arith, nat_le, nat_lt, list_any, or-false, or_assoc, true≢false, nat_tests, list_any-append, list_any_at, take-append_seam, drop-append_seam, drop-append-le, drop-set-add, get_or_default, get_or-drop, length-drop, take-append-le, take-set-le, take_more, Account, Strike, Gains, IsWritten, Reaches, StrikeToo, entries_of, entry_at, is_left, is_struck, strikes_of, is_out, All, cases_eq, cases_lt, All-push, All-weaker, AreGains, AreKept, IsClearedTo, IsDropped, IsLetGo, StartFrom, owes_at, common_steps, map, max, false_from_ne_true, or_parts, append_assoc, map-append, All-get_or, AreAppended, AreMoved, AreStruckToo, IsAccount, IsMoved, StrikesNoneFrom, account_debts, holds}
 use Rattle.sip_ledger.proofs.gains.LeftLemmas.{held_left}
 use Rattle.sip_ledger.proofs.account.AccountLemmas.{OwesAlike, dropped-alike, let_go-alike, over-all, past-end, kept-all, soft-must}
 use Rattle.sip_ledger.proofs.account.WithoutLemmas.{before-start}
@@ -163,10 +163,6 @@ moved-debts gains strikes old new a b moved = grind (arith, listed-same, soft-mu
 moved-account : (gains : Gains) (strikes old new : List Strike) (a b : Account) → IsMoved gains strikes old new a b → IsAccount gains strikes a → IsAccount gains new b
 unfolding owes_at
 moved-account gains strikes old new a b moved is = grind (arith, nat_tests, moved-debts, cases_lt, before-start)
-
--- AreMoved holds of no accounts
-pub moved-none : (gains : Gains) (strikes : List Strike) (rows : List Account) → AreMoved gains strikes (take 0 rows) [] []
-moved-none gains strikes rows = record { each = All-nil (IsAccount gains []); debts = refl }
 
 -- AreMoved goes on with one account more, once it is moved
 pub moved-more : (gains : Gains) (strikes old new : List Strike) (rows rows' : List Account) (at : ℕ) (d b : Account) → at < length rows → AreMoved gains strikes (take at rows) old rows' →

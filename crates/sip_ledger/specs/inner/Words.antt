@@ -10,7 +10,7 @@ pub use Rattle.std.specs.declared.ops.Bound.TheVariants.{Included, Unbounded}
 pub use Rattle.sip_standard.specs.Debts.{IsWithoutFirst}
 pub use Rattle.sip_ledger.specs.Accounts.{AppendsOwed, owed_in, owes_message, paid_rows, some_owes}
 unfoldable pub use Rattle.sip_ledger.specs.Accounts.{debts_print, worth_of}
-pub use Rattle.sip_ledger.specs.Debts.{IsFirstPaid, PaysSome, counts_at, debt_deadlines, earliest, is_payable, is_timely, is_within, paid_by, softened_debt}
+pub use Rattle.sip_ledger.specs.Debts.{IsFirstPaid, PaysSome, counts_at, debt_deadlines, earliest, is_payable, is_timely, paid_by, softened_debt}
 pub use Rattle.sip_ledger.specs.Entries.{IsGap, debt_of, debts_from}
 pub use Rattle.sip_ledger.specs.Indexes.{IsFirstFrom, IsFrom, IsNextUnder, NoneFrom, pair_cmp}
 unfoldable pub use Rattle.sip_ledger.specs.Indexes.{holds}

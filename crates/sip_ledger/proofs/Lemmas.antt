@@ -11,5 +11,5 @@ pub use Rattle.sip_ledger.proofs.lists.EachLemmas.{changing, changing-more, on_o
 pub use Rattle.sip_ledger.proofs.lists.FrontLemmas.{HasManyBelow, IsKeptTo, kept-all, kept-more, many-more, many-none, rise-above, rise-few}
 pub use Rattle.sip_ledger.proofs.lists.IndexLemmas.{at-pair, none-held, range-first, range-none, span-held}
 pub use Rattle.sip_ledger.proofs.rows.PaidLemmas.{account-there, ArePaidTo, gained-grown, gained-more, gained-over, HaveGained, IsExpiring, none-past, paid-grown, paid-next}
-pub use Rattle.sip_ledger.proofs.rows.SeenLemmas.{account-at, AreNamedTo, changed-by, on-error, over-to, owes-nothing, row-few, eased-account, softened-account, spanned, unchanged}
+pub use Rattle.sip_ledger.proofs.rows.SeenLemmas.{account-at, account-few, AreNamedTo, changed-by, on-error, over-to, owes-nothing, eased-account, softened-account, spanned, unchanged}
 pub use Rattle.sip_ledger.proofs.strikes.MovedLemmas.{alone-more, alone-none, alone-on, appended-fewer, appended-more, cleared-dropped, cleared-more, kept-less, longer_too, more_too, moved-more, none-struck, strikes-none, written-more, written-none}

@@ -1,6 +1,6 @@
 -- Many rows gain a debt, lose what is past, place by place, or are paid and put after the others.
 -- Of places o tells which are owed at first, o' and o'' which later, and m which must be sent; t is a moment.
-use Rattle.sip_ledger.proofs.Words.{◌≡◌, ℕ, ◌+◌, ◌<◌, ◌≤◌, ◌&&◌, ◌||◌, Bool, true, false, List, length, take, filter, arith, nat_tests, nat_le, and-false, cases_eq, cases_lt, lt-leb, take-length, get_or_default, Entry, Account, Gains, Strike, counts_at, AreGains, IsAccount, IsExpiredTo, IsUndropped, IsWithout, account_debts, entries_of, entry_at, must_at, owes_at, [], ◌∷◌, ◌++◌, drop, get_or, set, map, refl, sym, ap, ◌∙◌, All, fold, min, le-leb, or_right, All-get_or, All-head, All-map, All-push, All-tail, All-weaker, Debt, debt_deadlines, is_timely, AreAccounts, KeepsAccounts, accounts_debts, common_steps, cond, Option, Some, None, IfSome, option_to_list, list_any, take-append_seam, append-nil, append_assoc, get_or_append_left, length-append, length-map, map-append, owed_in, paid_rows, is_payable, paid_by, from_to}
+use Rattle.sip_ledger.proofs.Words.{◌≡◌, ℕ, ◌+◌, ◌<◌, ◌≤◌, ◌&&◌, ◌||◌, Bool, true, false, List, length, take, filter, arith, nat_tests, nat_le, and-false, cases_eq, cases_lt, lt-leb, take-length, get_or_default, Entry, Account, Gains, Strike, counts_at, AreGains, IsAccount, IsExpiredTo, IsUndropped, IsWithout, account_debts, entries_of, entry_at, must_at, owes_at, [], ◌∷◌, ◌++◌, drop, get_or, set, map, refl, sym, ap, ◌∙◌, All, fold, min, le-leb, or_right, All-get_or, All-head, All-map, All-push, All-tail, Debt, debt_deadlines, is_timely, AreAccounts, KeepsAccounts, accounts_debts, common_steps, cond, Option, Some, None, IfSome, option_to_list, list_any, take-append_seam, append-nil, append_assoc, get_or_append_left, length-append, length-map, map-append, owed_in, paid_rows, is_payable, paid_by, from_to}
 use Rattle.sip_ledger.proofs.gains.LeftLemmas.{entries_long, rising_kept, left-kept, owed-left}
 use Rattle.sip_ledger.proofs.debts.ListedLemmas.{listed-counting, listed-same, listed-each}
 use Rattle.sip_ledger.proofs.account.AccountLemmas.{empty-debts, kept-start, past-end, soft-must}
@@ -39,9 +39,9 @@ module _ {debt : Debt} {from k : ℕ} {old : List (List Debt)} {gains : Gains} {
       record { accounts = all.0; debts = all.1 ∙ changing-more (with_debt debt) from k old [] low within }
 
 -- where no debt is past, none goes
-kept-each : (t : ℕ) (xs : List Debt) → All (λ d. counts_at t d ≡ true) xs → filter (counts_at t) xs ≡ xs
-kept-each t [] all = refl
-kept-each t (x ∷ xs) all = grind (arith, nat_tests, All-head (λ d. counts_at t d ≡ true) x xs all, kept-each t xs (All-tail (λ d. counts_at t d ≡ true) x xs all))
+kept-late : (t : ℕ) (xs : List Debt) → All (λ d. t ≤ d.deadline) xs → filter (counts_at t) xs ≡ xs
+kept-late t [] all = refl
+kept-late t (x ∷ xs) all = grind (arith, nat_tests, or_right x.must (nat_le t x.deadline) (le-leb t x.deadline (All-head (λ (d : Debt). t ≤ d.deadline) x xs all)), kept-late t xs (All-tail (λ (d : Debt). t ≤ d.deadline) x xs all))
 
 -- where no gain that is kept is past, no debt of an account is
 debts-late : (gains : Gains) (strikes : List Strike) (a : Account) (t : ℕ) → AreGains gains → ((k : ℕ) → IsUndropped gains k → t ≤ (entry_at (entries_of gains) k).deadline) →
@@ -53,9 +53,7 @@ debts-late gains strikes a t are late =
 -- where no gain that is kept is past, an account has no debt that goes
 pub none-goes : (gains : Gains) (strikes : List Strike) (a : Account) (t : ℕ) → AreGains gains → ((k : ℕ) → IsUndropped gains k → t ≤ (entry_at (entries_of gains) k).deadline) →
     filter (counts_at t) (account_debts gains strikes a) ≡ account_debts gains strikes a
-none-goes gains strikes a t are late =
-    let debts = account_debts gains strikes a in
-    kept-each t debts (All-weaker (λ (d : Debt). t ≤ d.deadline) (λ d. counts_at t d ≡ true) (λ d late. or_right d.must (nat_le t d.deadline) (le-leb t d.deadline late)) debts (debts-late gains strikes a t are late))
+none-goes gains strikes a t are late = kept-late t (account_debts gains strikes a) (debts-late gains strikes a t are late)
 
 -- where no gain that is kept is past, what many rows owe is as it is once what is past is dropped from some
 pub none-past : (gains : Gains) (strikes : List Strike) (rows : List Account) (seen : List (List Debt)) (from t : ℕ) → AreGains gains → accounts_debts gains strikes rows ≡ seen →

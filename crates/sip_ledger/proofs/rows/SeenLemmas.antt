@@ -32,15 +32,6 @@ module _ {gains : Gains} {strikes : List Strike} {rows : List Account} {seen : L
         ap (account_debts gains strikes) is ∙ sym (get_or-map (account_debts gains strikes) rows row a [] within) ∙ ap (λ owes. owed_in owes row) view,
       )
 
-  -- a row owes no more debts than were gained
-  pub row-few : (row : ℕ) → AreAccounts gains strikes rows → accounts_debts gains strikes rows ≡ seen → row < length seen → length (owed_in seen row) < 2 ^ 64
-  unfolding account_debts
-  row-few row are view inside =
-      -- `none` stands for no account
-      let none : Account = record { start = 0; end = 0; soft = 0; first = 0; last = 0; print = 0 } in
-      let at = account-at row (get_or rows row none) are view inside (get_or_default rows row none (get_or rows row none) (row-inside row are view inside)) in
-      grind (arith, at, listed-few, entries_long)
-
   -- where an account of a row becomes one whose debts are its by f, contracts see the row changed by f
   pub changed-by : (f : List Debt → List Debt) (new : List Strike) (row : ℕ) (a b : Account) → take (length strikes) new ≡ strikes →
       AreAccounts gains strikes rows → accounts_debts gains strikes rows ≡ seen → row < length seen → a ≡ get_or rows row a →
@@ -59,6 +50,11 @@ module _ {gains : Gains} {strikes : List Strike} {rows : List Account} {seen : L
   pub over-to : (new : Gains) → KeepsAccounts gains new → AreGains new → AreAccounts gains strikes rows → accounts_debts gains strikes rows ≡ seen →
       AreAccounts new strikes rows × (accounts_debts new strikes rows ≡ seen)
   over-to new keeps gained are view = let all = keeps.each strikes rows are.each in (record { gained = gained; each = all.0 }, all.1 ∙ view)
+
+-- an account has no more debts than a number of the code can count
+pub account-few : (gains : Gains) (strikes : List Strike) (a : Account) → AreGains gains → length (account_debts gains strikes a) < 2 ^ 64
+unfolding account_debts
+account-few gains strikes a are = omega (arith, listed-few (owes_at gains strikes a) (must_at gains a) 0 (entries_of gains), entries_long gains are.long, are.small)
 
 -- the debts of a softened account are the softened ones
 soft-debts : (gains : Gains) (strikes : List Strike) (a : Account) (place : ℕ) → a.end ≤ place →

@@ -55,7 +55,6 @@ impl Model for Accounts {
 #[tactic(auto, using(crate::proofs::rows::SeenLemmas::of_rows))]
 impl Accounts {
     /// There are no rows.
-    #[tactic(auto, unfolding(crate::specs::inner::Accounts::accounts_debts))]
     pub fn new(alloc: Global) -> Self
         ensures { result ≡ [] }
     {
@@ -75,6 +74,7 @@ impl Accounts {
     }
 
     /// Puts a row that owes nothing after the others. On an error all is as before.
+    #[tactic(auto, using(crate::proofs::rows::SeenLemmas::of_changed_row))]
     pub fn push(&mut self) -> Result<(), AllocError>
         ensures ok { OnOk result (self.new ≡ self.old ++ [] ∷ []) }
         ensures err { OnErr result (self.new ≡ self.old) }
@@ -84,6 +84,7 @@ impl Accounts {
     }
 
     /// Puts a row that owes what this one does after the others. On an error all is as before.
+    #[tactic(auto, using(crate::proofs::rows::SeenLemmas::of_changed_row))]
     pub fn push_copy(&mut self, row: usize) -> Result<(), AllocError>
         requires { row < length self.old }
         ensures ok { OnOk result (self.new ≡ self.old ++ owed_in self.old row ∷ []) }
@@ -121,6 +122,7 @@ impl Accounts {
     }
 
     /// Lets the row owe what another one does, and nothing else.
+    #[tactic(auto, using(crate::proofs::rows::SeenLemmas::of_changed_row))]
     pub fn copy(&mut self, from: usize, to: usize)
         requires from { from < length self.old }
         requires to { to < length self.old }
@@ -218,6 +220,7 @@ impl Accounts {
     }
 
     /// Lets the row owe nothing.
+    #[tactic(auto, using(crate::proofs::rows::SeenLemmas::of_changed_row))]
     pub fn clear(&mut self, row: usize)
         requires { row < length self.old }
         ensures { self.new ≡ set self.old row [] }

@@ -1,8 +1,8 @@
 -- What an account owes, place by place: its debts, whether another account owes the same, and the least deadline of what it must send.
-use Rattle.sip_ledger.proofs.Words.{blank, All, All-head, All-tail, fold, IfSome, list_any, MatchOption, max, min, ◌≡◌, ◌≢◌, ℕ, ◌+◌, ◌<◌, ◌≤◌, ◌==◌, ◌&&◌, ◌||◌, Bool, true, false, List, [], ◌∷◌, ◌++◌, length, refl, sym, ap, ◌∙◌, arith, append-nil, nat_tests, IsTrue, Option, Some, None, ◌↔◌, option_to_list, cases_eq, cases_lt, eq-eqb, eqb-true, false_from_ne_true, true≢false, append_cancel_left, length-append, length-take-le, take-append-le, slice_get, take, take_all, Debt, Account, Gains, Strike, debt_deadlines, earliest, debt_of, AreGains, IsAccount, IsAfter, SharesNext, account_debts, entries_of, entry_at, is_left, is_struck, must_at, owes_at, strikes_of, numbers_of}
+use Rattle.sip_ledger.proofs.Words.{blank, All, All-head, All-tail, fold, IfSome, list_any, MatchOption, max, min, ◌≡◌, ◌≢◌, ℕ, ◌+◌, ◌<◌, ◌≤◌, ◌==◌, ◌&&◌, ◌||◌, Bool, true, false, List, [], ◌∷◌, ◌++◌, length, refl, sym, ap, ◌∙◌, arith, append-nil, nat_tests, IsTrue, Option, Some, None, ◌↔◌, option_to_list, cases_eq, cases_lt, eq-eqb, eqb-true, false_from_ne_true, true≢false, append_cancel_left, length-append, length-take-le, take-append-le, slice_get, take, take_all, Debt, Account, Gains, Strike, debt_deadlines, earliest, debt_of, AreGains, IsAccount, IsAfter, SharesNext, account_debts, entries_of, entry_at, is_left, is_struck, must_at, owes_at, strikes_of, numbers_of, drop}
 use Rattle.sip_ledger.proofs.debts.OwedLemmas.{listed-any}
 use Rattle.sip_ledger.proofs.gains.LeftLemmas.{left-kept, owed-left, rising_kept}
-use Rattle.sip_ledger.proofs.debts.ListedLemmas.{back, back-none, back-set, front, front-gap, front-next, front-on, listed-each, listed-none, listed-same, parts}
+use Rattle.sip_ledger.proofs.debts.ListedLemmas.{back, back-set, front, front-gap, front-next, front-on, listed-each, listed-none, listed-same, parts}
 use Rattle.sip_ledger.proofs.account.AccountLemmas.{kept-start, must-alike, must-below, must-from, owed-within, past-end, soft-must}
 use Rattle.sip_ledger.proofs.account.WithoutLemmas.{before-start}
 
@@ -44,7 +44,8 @@ module _ {gains : Gains} {strikes : List Strike} {a : Account} where
   -- before its end it owes all of its debts
   pub told-all : {place : ℕ} {debts : List Debt} → IsAccount gains strikes a → IsToldTo gains strikes a place debts → a.end ≤ place → debts ≡ account_debts gains strikes a
   told-all {place} {debts} is was past =
-      let none : back (owes_at gains strikes a) (must_at gains a) (entries_of gains) place ≡ [] = grind (arith, back-none, past-end) in
+      let none : back (owes_at gains strikes a) (must_at gains a) (entries_of gains) place ≡ [] =
+      listed-none (owes_at gains strikes a) (must_at gains a) place (drop place (entries_of gains)) (λ k low high. past-end gains strikes a k (omega (arith, low, past))) in
       sym (told-split is was ∙ ap (λ l. debts ++ l) none ∙ append-nil debts)
 
   -- what it owes first is the debt of the place where it starts
@@ -71,10 +72,6 @@ pub record AreAt (gains : Gains) (strikes : List Strike) (one other : Account) (
 
 -- What follows is of two accounts that are compared, `one` and `other`, by one list of gains and what was struck from it.
 module _ {gains : Gains} {strikes : List Strike} {one other : Account} (is : IsAccount gains strikes one) (is_other : IsAccount gains strikes other) where
-  -- AreAt holds at the starts of two accounts
-  pub at-start : AreAt gains strikes one other one.start other.start
-  at-start = record { debts = []; told = told-none is refl; told_beside = told-none is_other refl }
-
   -- AreAt goes on with the next places of both accounts after what they share, where both owe the same debt at their places
   pub at-more : {at beside n next next_beside : ℕ} (d : Debt) → AreAt gains strikes one other at beside → at < one.end → beside < other.end →
       d ≡ debt_of (entry_at (entries_of gains) at) (must_at gains one at) → d ≡ debt_of (entry_at (entries_of gains) beside) (must_at gains other beside) →
@@ -223,7 +220,7 @@ module _ {gains : Gains} {strikes : List Strike} {a : Account} {from at : ℕ} {
   least-first_due gained is held owed here rises = grind (arith, nat_tests, cases_lt, true≢false, must-parts, must-from, leading, was, gap)
 
 -- lemmas for the prover under one name: what an account owes, from debt to debt
-pub ruleset told_by_place = (kept-start, told-none, told-all)
+pub ruleset told_by_place = (kept-start, told-none, told-first, told-all, take_all)
 
 -- lemmas for the prover under one name: the least deadline of what an account must send first
 pub ruleset led_by_start = (before-start, kept-start, leading)

@@ -1,4 +1,4 @@
-use Rattle.std.specs.Prelude.{◌≡◌, ◌≢◌, ◌==◌, ◌&&◌, ◌||◌, ◌<◌, ◌≤◌, ◌+◌, ◌-◌, ◌^◌, ℕ, Bool, true, false, not, cond, Option, Some, None, List, [], ◌∷◌, ◌++◌, All, drop, get_or, length, map, min, nat_le, nat_lt, replicate, set, take}
+use Rattle.std.specs.Prelude.{◌≡◌, ◌≢◌, ◌==◌, ◌&&◌, ◌||◌, ◌<◌, ◌≤◌, ◌+◌, ◌-◌, ◌^◌, ℕ, Bool, true, false, not, cond, Option, Some, None, List, [], ◌∷◌, ◌++◌, All, drop, get_or, length, map, min, nat_le, nat_lt, replicate, take}
 use Rattle.std.specs.List.{list_any}
 use Rattle.sip_ledger.specs.declared.debt.Debt.{Debt}
 use Rattle.sip_ledger.specs.declared.debt.Entry.{Entry}
@@ -167,13 +167,8 @@ pub record AreAccounts (gains : Gains) (strikes : List Strike) (accounts : List 
   pub each : All (IsAccount gains strikes) accounts
 
 -- the debts of each account
-unfoldable pub accounts_debts : Gains → List Strike → List Account → List (List Debt)
+abbrev pub accounts_debts : Gains → List Strike → List Account → List (List Debt)
 accounts_debts gains strikes accounts = map (account_debts gains strikes) accounts
-
--- nothing of the message is left from a place on up to another one
-pub record IsNoneBetween (gains : Gains) (message from to : ℕ) : Type 0 where
-  pub order : from ≤ to
-  pub none : (k : ℕ) → from ≤ k → k < to → holds gains.messages message k ≡ false
 
 -- a strike of the gain's message that ends before its place, from where on nothing of that message is left
 pub record Reaches (gains : Gains) (place : ℕ) (strike : Strike) : Type 0 where
@@ -181,14 +176,6 @@ pub record Reaches (gains : Gains) (place : ℕ) (strike : Strike) : Type 0 wher
   pub from : strike.from ≤ place
   pub to : strike.to ≤ place
   pub between : (k : ℕ) → strike.to ≤ k → k < place → holds gains.messages (entry_at (entries_of gains) place).message k ≡ false
-
--- one of the strikes from the first on reaches up to the place, and now ends after it
-pub record Lengthens (gains : Gains) (place first : ℕ) (old new : List Strike) : Type 0 where
-  pub at : ℕ
-  pub after : first ≤ at
-  pub within : at < length old
-  pub reaches : (s : Strike) → Reaches gains place (get_or old at s)
-  pub longer : (s : Strike) → new ≡ set old at (record { message = (get_or old at s).message; from = (get_or old at s).from; to = place + 1 })
 
 -- what a seek knows is right: from its `low` on, the message is left first at its place, or nowhere
 abbrev pub IsSeek : Gains → ℕ → Seek → Type 0

@@ -3,7 +3,7 @@
 ghost use Rattle.std.specs.Prelude.{◌<◌, length};
 
 use crate::chance::{Chance, evens};
-use crate::wants::{Done, holds, holds_of};
+use crate::wants::{Done, holds};
 use sip_ledger::{Accounts, Debt};
 use sip_numbers::Numbers;
 use std::alloc::Global;
@@ -194,11 +194,11 @@ impl Played {
     fn owes_debts(&self, rt: &impl Abort, row: usize, list: &[Debt]) -> Done {
         holds(rt, row < self.accounts.len(), "a row of the accounts");
         let first = self.accounts.first_debt(row);
-        holds_of(rt, first == list.first().copied(), "first debt", row);
+        holds(rt, first == list.first().copied(), "first debt");
         for most in [list.len() / 2, list.len(), usize::MAX] {
             let debts = self.accounts.first_debts(self.alloc, row, most)?;
             let wants = list.get(..most).unwrap_or(list);
-            holds_of(rt, debts.as_slice() == wants, "first debts", row);
+            holds(rt, debts.as_slice() == wants, "first debts");
         }
         let runs = self.accounts.runs(self.alloc, row)?;
         let mut debts = Vec::new(self.alloc);
@@ -207,7 +207,7 @@ impl Played {
                 debts.push(run.debt)?;
             }
         }
-        holds_of(rt, debts.as_slice() == list, "debts", row);
+        holds(rt, debts.as_slice() == list, "debts");
         Ok(())
     }
 
@@ -215,16 +215,16 @@ impl Played {
     fn owes_in_time(&self, rt: &impl Abort, row: usize, list: &[Debt]) -> Done {
         holds(rt, row < self.accounts.len(), "a row of the accounts");
         let owes_nothing = self.accounts.owes_nothing(row);
-        holds_of(rt, owes_nothing == list.is_empty(), "owes nothing", row);
+        holds(rt, owes_nothing == list.is_empty(), "owes nothing");
         let least = earliest_must(list);
         let earliest = self.accounts.earliest_must(row);
-        holds_of(rt, earliest == least, "earliest must", row);
+        holds(rt, earliest == least, "earliest must");
         let moment = least.unwrap_or(0);
         self.pays_one_first(rt, row, list, moment)?;
-        holds_of(rt, self.accounts.is_timely(row, moment), "timely", row);
+        holds(rt, self.accounts.is_timely(row, moment), "timely");
         // One later the row is timely only where it must send nothing.
         let late = self.accounts.is_timely(row, moment.saturating_add(1));
-        holds_of(rt, late == least.is_none(), "late", row);
+        holds(rt, late == least.is_none(), "late");
         Ok(())
     }
 
@@ -234,12 +234,12 @@ impl Played {
         let mut names = Vec::new(self.alloc);
         self.accounts.names(self.alloc, row, &mut names)?;
         let wants = list.iter().map(|debt| debt.message);
-        holds_of(rt, names.iter().copied().eq(wants), "names", row);
+        holds(rt, names.iter().copied().eq(wants), "names");
         names.sort_unstable();
         names.dedup();
         let mut once = Vec::new(self.alloc);
         self.accounts.names_once(row, &mut once)?;
-        holds_of(rt, once.as_slice() == names.as_slice(), "names once", row);
+        holds(rt, once.as_slice() == names.as_slice(), "names once");
         Ok(())
     }
 
@@ -261,7 +261,7 @@ impl Played {
                     Some(found) => found == want && most > 0,
                     None => most < 3,
                 };
-                holds_of(rt, is_told, "first payable", row);
+                holds(rt, is_told, "first payable");
             }
         }
         Ok(())
@@ -273,7 +273,7 @@ impl Played {
         self.has(rt, other);
         let same = self.lists[row] == self.lists[other];
         let is_same = self.accounts.same(row, other);
-        holds_of(rt, is_same == same, "the same as", row);
+        holds(rt, is_same == same, "the same as");
         let alike = prints.get(row) == prints.get(other);
         holds(rt, !same || alike, "prints");
     }

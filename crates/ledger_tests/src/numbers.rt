@@ -41,11 +41,7 @@ fn sets_meet_where_lists_do(rt: HostRuntime) -> Done {
             let both = ones.iter().filter(|it| from <= **it && others.contains(it));
             let first = both.copied().min();
             holds(&rt, one.next_in_both(&other, from) == first, "next in both");
-            holds(
-                &rt,
-                other.next_in_both(&one, from) == first,
-                "next in both, of the other",
-            );
+            holds(&rt, other.next_in_both(&one, from) == first, "next in both");
         }
     }
     Ok(())

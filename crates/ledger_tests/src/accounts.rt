@@ -2,10 +2,10 @@
 //! call, and in the lists as the call's contract says. After each step both are compared by all that can be asked of accounts.
 ghost use Rattle.std.specs.Prelude.{◌<◌, length};
 
-use crate::chance::{Chance, evens};
-use crate::wants::{Done, holds, holds_of};
+use crate::chance::Chance;
+use crate::numbers::set_of;
+use crate::wants::{Done, holds};
 use sip_ledger::{Accounts, Debt};
-use sip_numbers::Numbers;
 use std::alloc::Global;
 use std::process::Abort;
 use std::test::Fail;
@@ -63,37 +63,31 @@ impl Played {
         Ok(())
     }
 
-    /// The row `to` owes from now on what the row `from` owes.
-    fn copy(&mut self, rt: &impl Abort, from: usize, to: usize) -> Done {
-        self.has(rt, from);
-        self.has(rt, to);
-        self.accounts.copy(from, to);
-        self.lists[to] = self.lists[from].clone()?;
-        Ok(())
-    }
-
-    /// Of the rows from one up to another, those that pay come once more, without what they pay and what is past.
-    fn pay(&mut self, rt: &impl Abort, from: usize, to: usize, message: u64, moment: u64) -> Done {
+    /// Of the rows from one up to another that must send nothing that is past, those that pay the message come once more, without what they pay and what is
+    /// past; where no message is told, each comes once more as it is.
+    fn push_some(
+        &mut self,
+        rt: &impl Abort,
+        from: usize,
+        to: usize,
+        message: Option<u64>,
+        moment: u64,
+    ) -> Done {
         holds(rt, to <= self.accounts.len(), "rows of the accounts");
-        self.accounts.push_paid(from, to, message, moment)?;
+        match message {
+            Some(message) => self.accounts.push_paid(from, to, message, moment)?,
+            None => self.accounts.push_timely(from, to, moment)?,
+        }
         for row in from..to {
             holds(rt, row < self.lists.len(), "a row of the lists");
             let mut left = self.lists[row].clone()?;
-            if is_timely(&left, moment) && pays(&mut left, message, moment) {
+            let is_timely = earliest_must(&left).is_none_or(|deadline| moment <= deadline);
+            let comes = match message {
+                Some(message) => pays(&mut left, message, moment),
+                None => true,
+            };
+            if is_timely && comes {
                 self.lists.push(left)?;
-            }
-        }
-        Ok(())
-    }
-
-    /// Of the rows from one up to another, those come once more that must send nothing that is past.
-    fn push_timely(&mut self, rt: &impl Abort, from: usize, to: usize, moment: u64) -> Done {
-        holds(rt, to <= self.accounts.len(), "rows of the accounts");
-        self.accounts.push_timely(from, to, moment)?;
-        for row in from..to {
-            holds(rt, row < self.lists.len(), "a row of the lists");
-            if is_timely(&self.lists[row], moment) {
-                self.lists.push(self.lists[row].clone()?)?;
             }
         }
         Ok(())
@@ -104,15 +98,6 @@ impl Played {
         self.accounts.gain_each(from, debt)?;
         for list in self.lists.iter_mut().skip(from) {
             list.push(debt)?;
-        }
-        Ok(())
-    }
-
-    /// The rows from `from` on lose what is past.
-    fn expire_each(&mut self, from: usize, moment: u64) -> Done {
-        self.accounts.expire_each(from, moment)?;
-        for list in self.lists.iter_mut().skip(from) {
-            list.retain(|debt| debt.must || moment <= debt.deadline);
         }
         Ok(())
     }
@@ -153,13 +138,6 @@ impl Played {
         }
     }
 
-    /// The row owes nothing any more.
-    fn clear(&mut self, rt: &impl Abort, row: usize) {
-        self.has(rt, row);
-        self.accounts.clear(row);
-        self.lists[row].clear();
-    }
-
     /// The last row goes.
     fn truncate(&mut self) {
         // One row always stays.
@@ -168,21 +146,17 @@ impl Played {
         self.lists.truncate(kept);
     }
 
-    /// The first row goes.
-    fn drop_first(&mut self, rt: &impl Abort) {
-        holds(rt, 0 < self.lists.len(), "a list");
-        self.accounts.drop_first(1);
-        self.lists.remove(0);
-    }
-
     /// Every second row is kept.
-    fn keep_some(&mut self) -> Done {
-        let rows = evens(self.alloc, self.accounts.len())?;
-        self.accounts.keep(&rows);
-        let mut kept = Vec::new(self.alloc);
-        for list in self.lists.iter().step_by(2) {
-            kept.push(list.clone()?)?;
+    fn keep_some(&mut self, rt: &impl Abort) -> Done {
+        let (mut rows, mut kept) = (Vec::new(self.alloc), Vec::new(self.alloc));
+        for row in 0..self.accounts.len() {
+            if row % 2 == 0 {
+                holds(rt, row < self.lists.len(), "a row of the lists");
+                rows.push(row)?;
+                kept.push(self.lists[row].clone()?)?;
+            }
         }
+        self.accounts.keep(&rows);
         self.lists = kept;
         Ok(())
     }
@@ -191,11 +165,11 @@ impl Played {
     fn owes_debts(&self, rt: &impl Abort, row: usize, list: &[Debt]) -> Done {
         holds(rt, row < self.accounts.len(), "a row of the accounts");
         let first = self.accounts.first_debt(row);
-        holds_of(rt, first == list.first().copied(), "first debt", row);
+        holds(rt, first == list.first().copied(), "first debt");
         for most in [list.len() / 2, list.len(), usize::MAX] {
             let debts = self.accounts.first_debts(self.alloc, row, most)?;
             let wants = list.get(..most).unwrap_or(list);
-            holds_of(rt, debts.as_slice() == wants, "first debts", row);
+            holds(rt, debts.as_slice() == wants, "first debts");
         }
         let runs = self.accounts.runs(self.alloc, row)?;
         let mut debts = Vec::new(self.alloc);
@@ -204,7 +178,7 @@ impl Played {
                 debts.push(run.debt)?;
             }
         }
-        holds_of(rt, debts.as_slice() == list, "debts", row);
+        holds(rt, debts.as_slice() == list, "debts");
         Ok(())
     }
 
@@ -212,16 +186,16 @@ impl Played {
     fn owes_in_time(&self, rt: &impl Abort, row: usize, list: &[Debt]) -> Done {
         holds(rt, row < self.accounts.len(), "a row of the accounts");
         let owes_nothing = self.accounts.owes_nothing(row);
-        holds_of(rt, owes_nothing == list.is_empty(), "owes nothing", row);
+        holds(rt, owes_nothing == list.is_empty(), "owes nothing");
         let least = earliest_must(list);
         let earliest = self.accounts.earliest_must(row);
-        holds_of(rt, earliest == least, "earliest must", row);
+        holds(rt, earliest == least, "earliest must");
         let moment = least.unwrap_or(0);
         self.pays_one_first(rt, row, list, moment)?;
-        holds_of(rt, self.accounts.is_timely(row, moment), "timely", row);
+        holds(rt, self.accounts.is_timely(row, moment), "timely");
         // One later the row is timely only where it must send nothing.
         let late = self.accounts.is_timely(row, moment.saturating_add(1));
-        holds_of(rt, late == least.is_none(), "late", row);
+        holds(rt, late == least.is_none(), "late");
         Ok(())
     }
 
@@ -231,68 +205,41 @@ impl Played {
         let mut names = Vec::new(self.alloc);
         self.accounts.names(self.alloc, row, &mut names)?;
         let wants = list.iter().map(|debt| debt.message);
-        holds_of(rt, names.iter().copied().eq(wants), "names", row);
+        holds(rt, names.iter().copied().eq(wants), "names");
         names.sort_unstable();
         names.dedup();
         let mut once = Vec::new(self.alloc);
         self.accounts.names_once(row, &mut once)?;
-        holds_of(rt, once.as_slice() == names.as_slice(), "names once", row);
+        holds(rt, once.as_slice() == names.as_slice(), "names once");
         Ok(())
     }
 
-    /// The first debt that a send of one of two messages pays is the first such debt of this list.
+    /// The first debt that a send of one of two messages pays is the first such debt of this list. It is found by a look at three, perhaps at fewer, and
+    /// not at none.
     fn pays_one_first(&self, rt: &impl Abort, row: usize, list: &[Debt], moment: u64) -> Done {
         // Each two of the messages 0, 1 and 2.
         for two in [[2, 1], [0, 2], [1, 0]] {
-            let mut messages = Numbers::new(self.alloc);
-            messages.put(two[0])?;
-            messages.put(two[1])?;
+            let messages = set_of(self.alloc, &two)?;
             let mut debts = list.iter();
             let first = debts.find(|debt| two.contains(&debt.message) && moment <= debt.deadline);
             let want = first.map(|debt| debt.message);
-            self.pays_first(rt, row, &messages, moment, want);
+            for most in 0..4 {
+                holds(rt, row < self.accounts.len(), "a row of the accounts");
+                // The messages are two, so that a look at three always tells.
+                let is_told = match self.accounts.first_payable(row, &messages, moment, most) {
+                    Some(found) => found == want && most > 0,
+                    None => most < 3,
+                };
+                holds(rt, is_told, "first payable");
+            }
         }
         Ok(())
-    }
-
-    /// The first debt that a send of one of these two messages pays is the wanted one. It is found by a look at three, perhaps at fewer, and not at none.
-    fn pays_first(
-        &self,
-        rt: &impl Abort,
-        row: usize,
-        messages: &Numbers,
-        now: u64,
-        want: Option<u64>,
-    ) {
-        for most in 0..4 {
-            holds(rt, row < self.accounts.len(), "a row of the accounts");
-            let first = self.accounts.first_payable(row, messages, now, most);
-            let told = match first {
-                Some(first) => first == want && most > 0,
-                // The messages are two, so that a look at three always tells.
-                None => most < 3,
-            };
-            holds_of(rt, told, "first payable", row);
-        }
-    }
-
-    /// Rows are told to owe the same where their lists are the same.
-    fn compares(&self, rt: &impl Abort, prints: &[u64], row: usize, other: usize) {
-        self.has(rt, row);
-        self.has(rt, other);
-        let same = self.lists[row] == self.lists[other];
-        let is_same = self.accounts.same(row, other);
-        holds_of(rt, is_same == same, "the same as", row);
-        let alike = prints.get(row) == prints.get(other);
-        holds(rt, !same || alike, "prints");
     }
 
     /// The messages that rows owe are told, from the least on, each once, and two numbers between which they lie.
     fn names_all(&self, rt: &impl Abort) -> Done {
-        let mut wants = Vec::new(self.alloc);
-        for debt in self.lists.iter().flatten() {
-            wants.push(debt.message)?;
-        }
+        let debts = self.lists.iter().flatten();
+        let mut wants: Vec<u64> = debts.map(|debt| debt.message).collect(self.alloc)?;
         wants.sort_unstable();
         wants.dedup();
         let mut names = Vec::new(self.alloc);
@@ -313,8 +260,13 @@ impl Played {
             self.owes_debts(rt, row, list)?;
             self.owes_in_time(rt, row, list)?;
             self.owes_names(rt, row, list)?;
-            for other in 0..self.lists.len() {
-                self.compares(rt, &prints, row, other);
+            for (other, its) in self.lists.iter().enumerate() {
+                self.has(rt, row);
+                self.has(rt, other);
+                let same = self.accounts.same(row, other);
+                holds(rt, same == (list == its), "the same");
+                let alike = prints.get(row) == prints.get(other);
+                holds(rt, list != its || alike, "prints");
             }
         }
         Ok(())
@@ -323,9 +275,8 @@ impl Played {
 
 /// The list loses the first debt that a send of the message pays, if there is one, and what is past. Tells whether there was one.
 fn pays(list: &mut Vec<Debt>, message: u64, moment: u64) -> bool {
-    let first = list
-        .iter()
-        .position(|debt| debt.message == message && moment <= debt.deadline);
+    let mut debts = list.iter();
+    let first = debts.position(|debt| debt.message == message && moment <= debt.deadline);
     if let Some(first) = first {
         list.remove(first);
     }
@@ -339,11 +290,6 @@ fn earliest_must(list: &[Debt]) -> Option<u64> {
     musts.map(|debt| debt.deadline).min()
 }
 
-/// Whether nothing that must be sent is past at the moment.
-fn is_timely(list: &[Debt], moment: u64) -> bool {
-    earliest_must(list).is_none_or(|deadline| moment <= deadline)
-}
-
 /// A debt of the message.
 pub(crate) fn owed(message: u64, deadline: u64, must: bool) -> Debt {
     Debt {
@@ -353,18 +299,6 @@ pub(crate) fn owed(message: u64, deadline: u64, must: bool) -> Debt {
     }
 }
 
-/// Some rows gain, each one of three messages.
-fn gain_some(rt: &impl Abort, chance: &mut Chance, played: &mut Played, deadline: u64) -> Done {
-    let must = chance.below(2) == 0;
-    for row in 0..played.lists.len() {
-        if chance.below(3) != 0 {
-            let message = chance.below(3);
-            played.gain_and_expire(rt, row, owed(message, deadline, must), 0)?;
-        }
-    }
-    Ok(())
-}
-
 /// Rows come and go.
 fn change_rows(rt: &impl Abort, chance: &mut Chance, played: &mut Played) -> Done {
     let row = played.row(chance);
@@ -372,10 +306,19 @@ fn change_rows(rt: &impl Abort, chance: &mut Chance, played: &mut Played) -> Don
     match chance.below(8) {
         0 if played.lists.len() < 12 => played.push()?,
         1 | 2 if played.lists.len() < 12 => played.push_copy(rt, row)?,
-        3 => played.copy(rt, row, other)?,
+        3 => {
+            played.has(rt, row);
+            played.has(rt, other);
+            played.accounts.copy(row, other);
+            played.lists[other] = played.lists[row].clone()?;
+        }
         4 if played.lists.len() > 6 => played.truncate(),
-        5 if played.lists.len() > 3 => played.keep_some()?,
-        6 if chance.below(8) == 0 => played.clear(rt, row),
+        5 if played.lists.len() > 3 => played.keep_some(rt)?,
+        6 if chance.below(8) == 0 => {
+            played.has(rt, row);
+            played.accounts.clear(row);
+            played.lists[row].clear();
+        }
         _ => played.accounts.tidy(),
     }
     Ok(())
@@ -387,14 +330,22 @@ fn change_many(rt: &impl Abort, chance: &mut Chance, played: &mut Played, moment
     let to = played.row(chance);
     let message = chance.below(3);
     match chance.below(6) {
-        0 if played.lists.len() < 12 => played.push_timely(rt, from, to, moment)?,
-        1 => played.expire_each(from, moment)?,
+        0 if played.lists.len() < 12 => played.push_some(rt, from, to, None, moment)?,
+        1 => {
+            played.accounts.expire_each(from, moment)?;
+            for list in played.lists.iter_mut().skip(from) {
+                list.retain(|debt| debt.must || moment <= debt.deadline);
+            }
+        }
         2 => {
             let must = chance.below(2) == 0;
             played.gain_each(from, owed(message, moment.saturating_add(5), must))?;
         }
-        3 if played.lists.len() > 6 => played.drop_first(rt),
-        _ if played.lists.len() < 12 => played.pay(rt, from, to, message, moment)?,
+        3 if played.lists.len() > 6 => {
+            played.accounts.drop_first(1);
+            played.lists.remove(0);
+        }
+        _ if played.lists.len() < 12 => played.push_some(rt, from, to, Some(message), moment)?,
         _ => played.truncate(),
     }
     Ok(())
@@ -418,7 +369,13 @@ fn step(rt: &impl Abort, chance: &mut Chance, played: &mut Played, rises: bool) 
         15..17 => change_many(rt, chance, played, moment)?,
         _ => {
             let deadline = if rises { later } else { moment / 10 * 10 };
-            gain_some(rt, chance, played, deadline)?;
+            let must = chance.below(2) == 0;
+            for row in 0..played.lists.len() {
+                if chance.below(3) != 0 {
+                    let debt = owed(chance.below(3), deadline, must);
+                    played.gain_and_expire(rt, row, debt, 0)?;
+                }
+            }
         }
     }
     played.agree(rt)
@@ -442,18 +399,6 @@ fn step_with_past(rt: &impl Abort, chance: &mut Chance, played: &mut Played) -> 
     played.agree(rt)
 }
 
-/// Plays `count` steps by chance: with kind 0 deadlines rise, with 1 they do not, and with 2 a row also gains or pays and loses what is past.
-fn steps(rt: &impl Abort, played: &mut Played, seed: u64, count: u64, kind: u64) -> Done {
-    let mut chance = Chance::new(seed);
-    for _ in 0..count {
-        match kind {
-            2 => step_with_past(rt, &mut chance, played)?,
-            _ => step(rt, &mut chance, played, kind == 0)?,
-        }
-    }
-    Ok(())
-}
-
 /// Twelve seeds, of which every second one has deadlines that rise with the clock. Before them two rows gain a debt, the second after all that it owes,
 /// while the first gains it at an earlier place.
 #[test]
@@ -465,7 +410,10 @@ fn accounts_owe_what_plain_lists_have(rt: HostRuntime) -> Done {
     played.gain_each(0, owed(1, 10, true))?;
     played.agree(&rt)?;
     for seed in 0..12 {
-        steps(&rt, &mut Played::new(&rt)?, seed, 80, seed % 2)?;
+        let (mut chance, mut played) = (Chance::new(seed), Played::new(&rt)?);
+        for _ in 0..80 {
+            step(&rt, &mut chance, &mut played, seed % 2 == 0)?;
+        }
     }
     Ok(())
 }
@@ -474,7 +422,10 @@ fn accounts_owe_what_plain_lists_have(rt: HostRuntime) -> Done {
 #[test]
 fn rows_gain_and_pay_and_lose_what_is_past(rt: HostRuntime) -> Done {
     for seed in 0..4 {
-        steps(&rt, &mut Played::new(&rt)?, seed, 100, 2)?;
+        let (mut chance, mut played) = (Chance::new(seed), Played::new(&rt)?);
+        for _ in 0..100 {
+            step_with_past(&rt, &mut chance, &mut played)?;
+        }
     }
     Ok(())
 }
@@ -485,7 +436,7 @@ fn rows_that_pay_lose_what_is_past(rt: HostRuntime) -> Done {
     let mut played = Played::new(&rt)?;
     played.gain_each(0, owed(1, 10, false))?;
     played.gain_each(0, owed(2, 20, true))?;
-    played.pay(&rt, 0, 1, 2, 15)?;
+    played.push_some(&rt, 0, 1, Some(2), 15)?;
     played.agree(&rt)
 }
 

@@ -1,8 +1,4 @@
 //! Numbers by chance.
-ghost use Rattle.std.specs.Prelude.{◌<◌, All, AllPairs, IfOk};
-
-use std::alloc::Global;
-use std::test::Fail;
 
 /// Random numbers.
 #[derive(Drop)]
@@ -21,18 +17,4 @@ impl Chance {
         self.0 = product.wrapping_add(1_442_695_040_888_963_407);
         (self.0 >> 33) % limit.max(1)
     }
-}
-
-/// The even numbers below the limit.
-pub(crate) fn evens(alloc: Global, limit: usize) -> Result<Vec<usize>, Fail>
-    ensures within { IfOk result (λ rows. All (λ row. row < limit) rows.items) }
-    ensures rising { IfOk result (λ rows. AllPairs (λ a b. a < b) rows.items) }
-{
-    let mut rows = Vec::new(alloc);
-    for row in 0..limit {
-        if row % 2 == 0 {
-            rows.push(row)?;
-        }
-    }
-    Ok(rows)
 }

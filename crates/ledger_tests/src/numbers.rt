@@ -1,52 +1,20 @@
 //! Sets of numbers, beside plain lists of them.
 use crate::chance::Chance;
-use crate::wants::{Done, holds, holds_of};
+use crate::wants::{Done, holds};
 use sip_numbers::Numbers;
 use std::alloc::Global;
-use std::process::Abort;
 use std::test::Fail;
 
 /// Numbers about the ends of the words of 64, and the last ones.
-const ENDS: [u64; 14] = [
-    0,
-    1,
-    62,
-    63,
-    64,
-    65,
-    127,
-    128,
-    191,
-    192,
-    6400,
-    u64::MAX - 64,
-    u64::MAX - 63,
-    u64::MAX,
-];
+const ENDS: [u64; 14] = [0, 1, 62, 63, 64, 65, 127, 128, 191, 192, 6400, !64, !63, !0];
 
 /// The set of these numbers.
-fn set_of(alloc: Global, numbers: &[u64]) -> Result<Numbers, Fail> {
+pub(crate) fn set_of(alloc: Global, numbers: &[u64]) -> Result<Numbers, Fail> {
     let mut set = Numbers::new(alloc);
     for number in numbers {
         set.put(*number)?;
     }
     Ok(set)
-}
-
-/// The first number from `from` on that is in both sets is that of the lists: they need not be in order.
-fn meets(rt: &impl Abort, sets: (&Numbers, &Numbers), lists: (&[u64], &[u64]), from: u64) {
-    let both = lists
-        .0
-        .iter()
-        .copied()
-        .filter(|number| lists.1.contains(number));
-    let want = both.filter(|number| from <= *number).min();
-    holds_of(
-        rt,
-        sets.0.next_in_both(sets.1, from) == want,
-        "next in both",
-        from as usize,
-    );
 }
 
 /// Two sets meet in the numbers that were put into both and not taken out of one, whichever side is asked, and from wherever on.
@@ -70,8 +38,10 @@ fn sets_meet_where_lists_do(rt: HostRuntime) -> Done {
             list.push(number)?;
         }
         for from in ENDS {
-            meets(&rt, (&one, &other), (&ones, &others), from);
-            meets(&rt, (&other, &one), (&others, &ones), from);
+            let both = ones.iter().filter(|it| from <= **it && others.contains(it));
+            let first = both.copied().min();
+            holds(&rt, one.next_in_both(&other, from) == first, "next in both");
+            holds(&rt, other.next_in_both(&one, from) == first, "next in both");
         }
     }
     Ok(())

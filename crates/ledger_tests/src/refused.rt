@@ -1,7 +1,7 @@
 //! Calls on accounts in which a growth is refused. `tests/growths` refuses each growth in turn: the test then fails with want of memory, once it has
 //! seen that the call left all as it was, and that the same call succeeds with memory.
 use crate::accounts::owed;
-use crate::wants::{Done, holds, holds_of};
+use crate::wants::{Done, holds};
 use sip_ledger::Accounts;
 use std::alloc::AllocError;
 use std::process::Abort;
@@ -12,15 +12,12 @@ fn alike(rt: &(impl Abort + AllocGlobal), accounts: &Accounts, twin: &Accounts) 
     for row in 0..accounts.len() {
         let owed = accounts.runs(rt.alloc(), row)?;
         let owes = twin.runs(rt.alloc(), row)?;
-        holds_of(rt, owed.as_slice() == owes.as_slice(), "debts", row);
+        holds(rt, owed.as_slice() == owes.as_slice(), "debts");
     }
     Ok(())
 }
 
-/// Does what the step with this number does, by what is left of it after division by 8. 0: a row comes that owes nothing; 1: a copy of row 0.
-/// 2, 3 and 4: row 0, or row 1, owes one more debt. 5: row 0 pays one of the three messages. After 2, 3 and 5 it has lost what expired before
-/// the moment. 6: of each of the rows that must send nothing that is past and can pay the message, a new row comes that has paid it.
-/// 7: of each that must send nothing that is past, a copy comes.
+/// Makes one of eight calls, by the number of the step, with one of three messages.
 fn step(rt: &impl Abort, accounts: &mut Accounts, number: u32) -> Result<(), AllocError> {
     let moment = u64::from(number);
     let message = moment % 3;
@@ -38,7 +35,8 @@ fn step(rt: &impl Abort, accounts: &mut Accounts, number: u32) -> Result<(), All
     }
 }
 
-/// Does the step, by a second call where memory was refused, and does it to the twin as well. Asserts that both have the same rows then.
+/// Does the step, and asks for the messages that rows owe, each by a second call where memory was refused. Does the step to the twin as well, and
+/// asserts that both have the same rows then.
 fn step_again(
     rt: &(impl Abort + AllocGlobal),
     accounts: &mut Accounts,
@@ -52,11 +50,6 @@ fn step_again(
     }
     step(rt, twin, number)?;
     alike(rt, accounts, twin)?;
-    Ok(done?)
-}
-
-/// Asks for the messages that rows owe, by a second call where memory was refused.
-fn names_again(rt: &(impl Abort + AllocGlobal), accounts: &Accounts) -> Done {
     let mut names = Vec::new(rt.alloc());
     let asked = accounts.all_names(&mut names);
     if asked.is_err() {
@@ -65,7 +58,7 @@ fn names_again(rt: &(impl Abort + AllocGlobal), accounts: &Accounts) -> Done {
     }
     // All debts of `step` are of the messages 0, 1 and 2.
     holds(rt, names.iter().all(|number| *number < 3), "names");
-    Ok(asked?)
+    Ok(done.and(asked)?)
 }
 
 /// Two accounts take the same 48 steps on two rows, which are kept few: where memory is refused to the first, it has to be as the second, which has not
@@ -80,7 +73,6 @@ fn accounts_are_as_before_after_a_refused_growth(rt: HostRuntime) -> Done {
     }
     for number in 0..48_u32 {
         step_again(&rt, &mut accounts, &mut twin, number)?;
-        names_again(&rt, &accounts)?;
         if number % 8 == 7 {
             accounts.tidy();
             twin.tidy();

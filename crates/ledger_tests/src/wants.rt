@@ -13,10 +13,3 @@ pub(crate) fn holds(rt: &impl Abort, is_so: bool, words: &str)
 {
     assert!(rt; is_so, "{words}");
 }
-
-/// Asserts that something is so of the row, which the words tell.
-pub(crate) fn holds_of(rt: &impl Abort, is_so: bool, words: &str, row: usize)
-    ensures { IsTrue is_so }
-{
-    assert!(rt; is_so, "{words}: {row}");
-}

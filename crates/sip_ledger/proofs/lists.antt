@@ -1,4 +1,2 @@
--- Lists of any elements, and indexes.
+-- Lists of any elements.
 pub mod EachLemmas
-pub mod FrontLemmas
-pub mod IndexLemmas

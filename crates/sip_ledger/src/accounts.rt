@@ -14,21 +14,18 @@ mod left;
 mod moved;
 mod named;
 mod places;
-mod seek;
 mod strikes;
 
 use crate::accounts::account::{
     Account, EMPTY, debt_for, earliest_must, expired, find, find_first, first_debts,
     gained_and_expired, paid_and_expired, place_for, same,
 };
-use crate::accounts::gains::Gains;
+use crate::accounts::gains::{Gains, Seek, drop_first};
 use crate::accounts::left::{drop_front, let_go};
 use crate::accounts::moved::{held, move_all};
 use crate::accounts::named::name_all;
-use crate::accounts::seek::Seek;
 use crate::accounts::strikes::Strike;
 use crate::debt::Debt;
-use crate::front;
 use crate::run::{Run, runs_of};
 use sip_numbers::Numbers;
 use std::alloc::{AllocError, Global};
@@ -58,7 +55,6 @@ impl Model for Accounts {
 #[tactic(auto, using(crate::proofs::rows::SeenLemmas::of_rows))]
 impl Accounts {
     /// There are no rows.
-    #[tactic(auto, unfolding(crate::specs::inner::Accounts::accounts_debts))]
     pub fn new(alloc: Global) -> Self
         ensures { result ≡ [] }
     {
@@ -78,6 +74,7 @@ impl Accounts {
     }
 
     /// Puts a row that owes nothing after the others. On an error all is as before.
+    #[tactic(auto, using(crate::proofs::rows::SeenLemmas::of_changed_row))]
     pub fn push(&mut self) -> Result<(), AllocError>
         ensures ok { OnOk result (self.new ≡ self.old ++ [] ∷ []) }
         ensures err { OnErr result (self.new ≡ self.old) }
@@ -87,6 +84,7 @@ impl Accounts {
     }
 
     /// Puts a row that owes what this one does after the others. On an error all is as before.
+    #[tactic(auto, using(crate::proofs::rows::SeenLemmas::of_changed_row))]
     pub fn push_copy(&mut self, row: usize) -> Result<(), AllocError>
         requires { row < length self.old }
         ensures ok { OnOk result (self.new ≡ self.old ++ owed_in self.old row ∷ []) }
@@ -108,7 +106,7 @@ impl Accounts {
         ensures { self.new ≡ drop rows self.old }
     {
         let count = rows.min(self.rows.len());
-        front::drop_first(&mut self.rows, count);
+        drop_first(&mut self.rows, count);
     }
 
     /// Keeps the rows of these numbers, which rise.
@@ -124,6 +122,7 @@ impl Accounts {
     }
 
     /// Lets the row owe what another one does, and nothing else.
+    #[tactic(auto, using(crate::proofs::rows::SeenLemmas::of_changed_row))]
     pub fn copy(&mut self, from: usize, to: usize)
         requires from { from < length self.old }
         requires to { to < length self.old }
@@ -221,6 +220,7 @@ impl Accounts {
     }
 
     /// Lets the row owe nothing.
+    #[tactic(auto, using(crate::proofs::rows::SeenLemmas::of_changed_row))]
     pub fn clear(&mut self, row: usize)
         requires { row < length self.old }
         ensures { self.new ≡ set self.old row [] }

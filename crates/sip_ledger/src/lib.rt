@@ -3,8 +3,6 @@
 
 mod accounts;
 mod debt;
-mod front;
-mod index;
 mod run;
 
 pub use crate::accounts::Accounts;

@@ -7,7 +7,7 @@ pub use Rattle.std.proofs.lemmas.Bool.Decides.{nat_tests}
 pub use Rattle.std.proofs.lemmas.Cmp.{ranked}
 pub use Rattle.std.proofs.lemmas.Fn.{All-from_retain, always_returns_same}
 pub use Rattle.std.proofs.lemmas.Grind.{get_or_picked}
-pub use Rattle.std.proofs.lemmas.List.{drop-append-le, drop-map, drop-replicate, drop_all, get_or-drop, get_or-map, get_or-set_other, get_or-set_same, get_or-take, get_or_append_left, get_or_default, get_or_push, length-drop, length-map, length-replicate, length-set, length-take, length-take-le, length_push, map-append, replicate-append-replicate, set-get_or, set_at, set_split, take-append-drop, take-append-le, take-map, take-replicate, take-take, take_all, take_min, take_more, with_items_is}
+pub use Rattle.std.proofs.lemmas.List.{drop-append-le, drop-map, drop-replicate, drop_all, get_or-drop, get_or-map, get_or-set_other, get_or-set_same, get_or-take, get_or_append_left, get_or_default, get_or_push, length-drop, length-map, length-replicate, length-set, length-take, length-take-le, length_push, map-append, replicate-append-replicate, set-get_or, set_at, set_split, take-append-drop, take-append-le, take-map, take-replicate, take-take, take_all, take_at, take_min, take_more, take_rest, with_items_is}
 pub use Rattle.std.proofs.lemmas.List.Elements.{All-append, All-cons, All-contains, All-contains_itself, All-drop, All-filter, All-get_or, All-head, All-nil, All-push, All-replicate, All-tail, All-take, All-weaker, Contains-append_cases, Contains-append_left, Contains-append_right, Contains-push, Contains-push_cases, filter-append}
 pub use Rattle.std.proofs.lemmas.List.Folds.{list_any_at, map_fixed}
 pub use Rattle.std.proofs.lemmas.List.Kept.{AllPairs-cons}
@@ -24,7 +24,6 @@ pub use Rattle.std.specs.Vec.{vec_len}
 pub use Rattle.std.specs.declared.cmp.Ordering.TheVariants.{Equal}
 pub use Rattle.sip_key.proofs.AckOfLemmas.{ack-of_says}
 pub use Rattle.sip_ledger.proofs.lists.EachLemmas.{on_ok}
-pub use Rattle.sip_ledger.proofs.lists.FrontLemmas.{dropped-first}
 pub use Rattle.sip_ledger.specs.Accounts.{paid_rows}
 pub use Rattle.sip_ledger.specs.Debts.{IsFirstPaid, PaysSome, counts_at, is_payable, is_timely, paid_by}
 pub use Rattle.sip_numbers.specs.Numbers.{numbers_of}
@@ -49,7 +48,7 @@ pub use Rattle.sip_machine.specs.inner.Paying.{FindsFirst, PaysFor}
 pub use Rattle.sip_machine.specs.inner.Pools.{AreFirstOnes, AreMixedWith, IsSought, beside, one_past, picked}
 pub use Rattle.sip_machine.specs.inner.Single.{AnswersOne, IsTheOne}
 pub use Rattle.sip_machine.specs.inner.Slots.{AreSlots, IsNewest, IsReached, Slotted, slot_of, slotted}
-pub use Rattle.sip_machine.specs.inner.Tos.{AreTos, AreUnder, IsChanged, IsTo, IsToOf, IsUnder, StandUnder, count_between}
+pub use Rattle.sip_machine.specs.inner.Tos.{AreTos, AreUnder, HasAll, IsChanged, IsTo, IsToOf, count_between}
 pub use Rattle.sip_machine.specs.inner.Turns.{TurnInRange, changed_debts, state_in, turn_names, turn_seen}
 pub use Rattle.sip_message.proofs.lemmas.says.Reading.{same_reading, says-no_fault, says-reads}
 pub use Rattle.sip_message.specs.Reading.{Reading}

@@ -1,4 +1,3 @@
 -- Which debts an ACK pays: the Tos beside messages, and the messages under the hashes of their Tos.
-pub mod HashesLemmas
 pub mod ToLemmas
 pub mod HolderLemmas

@@ -2,4 +2,3 @@
 pub mod DueLemmas
 pub mod DuesEachLemmas
 pub mod NamesLemmas
-pub mod LookLemmas

@@ -4,5 +4,4 @@ pub mod OwingEachLemmas
 pub mod RepliesLemmas
 pub mod SingleLemmas
 pub mod BothLemmas
-pub mod PayableLemmas
 pub mod ProvisionalLemmas

@@ -6,7 +6,7 @@ ghost use Rattle.sip_machine.specs.Texts.{Texts, IsBook, Keeps, text_of};
 ghost use Rattle.sip_machine.specs.Retained.{only};
 ghost use Rattle.sip_message.specs.Reads.{Reads};
 ghost use Rattle.sip_machine.specs.inner.ReadAs.{IsReadAs};
-ghost use Rattle.sip_machine.specs.inner.Tos.{AreTos, IsTo, IsToOf, StandUnder, count_between};
+ghost use Rattle.sip_machine.specs.inner.Tos.{AreTos, HasAll, IsTo, IsToOf, count_between};
 ghost use Rattle.sip_machine.specs.inner.Order.{texts_of, placed, bytes_at, key_of, compare, begins_by, places_of, index_of, most_places, IsLed, IsInRuns, StandInRuns, IsInside, IsGap};
 
 mod retain;
@@ -14,10 +14,10 @@ mod retain;
 use crate::book::retain::{keep_only, lay_aside, move_all};
 use crate::event::is_unsuccessful;
 use crate::hashed::{Hashed, hash};
-use crate::hashes::Hashes;
 use crate::tos::{MANY, Tos};
 use sip_key::solid_of;
 use sip_message::{Message, ReadError, StartLine};
+use sip_numbers::Numbers;
 use std::alloc::{AllocError, Global};
 use std::cell::Cell;
 use std::cmp::Ordering;
@@ -189,15 +189,15 @@ impl Book {
         self.tos.get(number, near)
     }
 
-    /// The numbers of messages under the hashes of their Tos, from which the blanks were taken. Each message from `low` up to `high` stands
-    /// there; where one of them has not its To beside it, or hashes are not kept, the answer is None.
-    pub(crate) fn hashes(&self, low: u64, high: u64) -> Option<&Hashes>
-        ensures { IfSome result (λ hashes. StandUnder self.now low high hashes.now) }
+    /// Numbers of messages, among which are those of all messages from `low` up to `high` that have this To, from which the blanks were taken.
+    /// Where one of these has not its To beside it, or hashes are not kept, the answer is None.
+    pub(crate) fn under(&self, low: u64, high: u64, to: &Hashed) -> Option<&Numbers>
+        ensures { IfSome result (λ set. HasAll self.now low high to.now set.now) }
     {
         if kept_between(&self.kept, low, high) != self.tos.between(low, high) {
             return None;
         }
-        self.tos.hashes()
+        self.tos.under(to)
     }
 
     /// Puts the To of a message beside it where an ACK is owed for the message, so that no ACK reads it anew. Where a search looked at many

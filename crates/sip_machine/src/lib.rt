@@ -6,7 +6,6 @@ mod dues;
 mod effects;
 mod event;
 mod hashed;
-mod hashes;
 mod invite_client;
 mod invite_client_3261;
 mod invite_server;

@@ -1,12 +1,14 @@
 //! The Tos of messages for which an ACK may come. They are found by the numbers of the messages, and by themselves.
-ghost use Rattle.std.specs.Prelude.{◌≡◌, ◌<◌, ◌++◌, ◌∷◌, [], Some, true, false, IfSome, OnOk, OnErr, IsTrue, All, AllPairs, Contains, length, map};
+ghost use Rattle.std.specs.Prelude.{◌≡◌, ◌<◌, ◌++◌, ◌∷◌, [], ℕ, true, false, IfSome, OnOk, OnErr, IsTrue, All, AllPairs, Contains, length, map};
 ghost use Rattle.std.specs.List.{HoldsAt};
+ghost use Rattle.sip_numbers.specs.Numbers.{numbers_of};
 ghost use Rattle.sip_machine.specs.declared.tos.To.{To};
-ghost use Rattle.sip_machine.specs.inner.Tos.{AreUnder, IsChanged, count_between};
+ghost use Rattle.sip_machine.specs.inner.Tos.{AreUnder, IsChanged, count_between, stands};
 
 use crate::hashed::Hashed;
-use crate::hashes::Hashes;
+use sip_numbers::Numbers;
 use std::alloc::{AllocError, Global};
+use std::collections::BTreeMap;
 use std::marker::Model;
 
 /// The To of the message with this number, without its blanks.
@@ -21,7 +23,9 @@ pub(crate) struct To {
 pub(crate) struct Tos {
     list: Vec<To>,
     /// Where the Tos of all messages are to stand here: the numbers of the messages, under the hashes of their Tos.
-    hashes: Option<Hashes>,
+    hashes: Option<BTreeMap<u64, Numbers>>,
+    /// No number, which is what stands under any other hash.
+    none: Numbers,
 }
 
 /// Where a search for a To looks at this many messages, one by one, the Tos of all messages are to stand here: then no message without one lies
@@ -29,7 +33,7 @@ pub(crate) struct Tos {
 pub(crate) const MANY: usize = 255;
 
 impl Model for Tos {
-    ghost use Rattle.std.specs.Prelude.{◌<◌, List, AllPairs};
+    ghost use Rattle.std.specs.Prelude.{◌<◌, IfSome, List, AllPairs};
     ghost use Rattle.sip_machine.specs.declared.tos.To.{To};
     ghost use Rattle.sip_machine.specs.inner.Tos.{AreUnder};
 
@@ -38,7 +42,7 @@ impl Model for Tos {
     ghost view = { λ t. t.list.items };
 
     // The numbers of the messages rise, and where hashes are kept, each stands under the hash of its To.
-    ghost invariant = { λ t. AllPairs (λ a b. a.number < b.number) t.list.items × AreUnder t.hashes t.list.items };
+    ghost invariant = { λ t. AllPairs (λ a b. a.number < b.number) t.list.items × IfSome t.hashes (AreUnder t.list.items) };
 }
 
 impl Tos {
@@ -49,6 +53,7 @@ impl Tos {
         Tos {
             list: Vec::new(alloc),
             hashes: None,
+            none: Numbers::new(alloc),
         }
     }
 
@@ -61,7 +66,7 @@ impl Tos {
     pub(crate) fn replace(&mut self, tos: Tos)
         ensures { self.new ≡ tos }
     {
-        self.hashes = hashes_of(*tos.list.allocator(), &tos.list);
+        self.hashes = hashes_of(*tos.list.allocator(), &tos.list, true);
         self.list = tos.list;
     }
 
@@ -91,8 +96,9 @@ impl Tos {
         ensures ok { OnOk result (self.new ≡ self.old ++ (record { number = number; text = text }) ∷ []) }
         ensures err { OnErr result (self.new ≡ self.old) }
     {
-        let alloc = *self.list.allocator();
-        note(alloc, &mut self.hashes, text.hash(), number)?;
+        if let Some(sets) = &mut self.hashes {
+            put(*self.list.allocator(), sets, text.hash(), number)?;
+        }
         self.list.push(To { number, text })?;
         Ok(())
     }
@@ -103,7 +109,9 @@ impl Tos {
     {
         match self.list.last() {
             Some(last) if self.hashes.is_some() && last.number == number => {
-                drop_note(&mut self.hashes, last.text.hash(), number);
+                if let Some(sets) = &mut self.hashes {
+                    take(sets, last.text.hash(), number);
+                }
                 let _ = self.list.pop();
             }
             _ => {}
@@ -116,19 +124,19 @@ impl Tos {
         ensures { All (λ to. Contains self.old to × Contains numbers.now to.number) self.new }
     {
         self.list.retain(|to| is_among(numbers, to.number));
-        if self.hashes.is_none() {
-            return;
-        }
-        self.hashes = hashes_of(*self.list.allocator(), &self.list);
+        self.hashes = hashes_of(*self.list.allocator(), &self.list, self.hashes.is_some());
     }
 
-    /// The numbers of the messages of the list, under the hashes of their Tos, where hashes are kept.
-    pub(crate) fn hashes(&self) -> Option<&Hashes>
-        ensures { IfSome result (λ hashes. AreUnder (Some hashes.now) self.now) }
+    /// Numbers of messages, among which are those of all messages of the list that have this To; None where no hashes are kept.
+    pub(crate) fn under(&self, to: &Hashed) -> Option<&Numbers>
+        ensures { IfSome result (λ set. All (λ its. its.text ≡ to.now → numbers_of set.now its.number ≡ true) self.now) }
     {
-        match &self.hashes {
-            Some(hashes) => Some(hashes),
-            None => None,
+        let Some(sets) = &self.hashes else {
+            return None;
+        };
+        match sets.get(&to.hash()) {
+            Some(set) => Some(set),
+            None => Some(&self.none),
         }
     }
 
@@ -164,44 +172,48 @@ fn is_among(numbers: &[u64], number: u64) -> bool
     numbers.binary_search(&number).is_ok()
 }
 
-/// Puts the number of a message under the hash of its To, where hashes are kept. On an error all is as before.
-fn note(
+/// Puts the number under the hash. On an error the same numbers stand under each hash as before.
+fn put(
     alloc: Global,
-    hashes: &mut Option<Hashes>,
+    sets: &mut BTreeMap<u64, Numbers>,
     hash: u64,
     number: u64,
 ) -> Result<(), AllocError>
-    ensures ok { OnOk result (IsChanged hash number true hashes.old hashes.new) }
-    ensures err { OnErr result (hashes.new ≡ hashes.old) }
+    ensures ok { OnOk result (IsChanged hash number true sets.old sets.new) }
+    ensures err { OnErr result ((h n : ℕ) → stands sets.new h n ≡ stands sets.old h n) }
 {
-    if let Some(hashes) = hashes {
-        hashes.put(alloc, hash, number)?;
+    if let Some(set) = sets.get_mut(&hash) {
+        return set.put(number);
     }
+    let mut set = Numbers::new(alloc);
+    set.put(number)?;
+    let _old = sets.insert(hash, set)?;
     Ok(())
 }
 
-/// Takes the number of a message from the hash of its To, where hashes are kept.
-fn drop_note(hashes: &mut Option<Hashes>, hash: u64, number: u64)
-    ensures { IsChanged hash number false hashes.old hashes.new }
+/// Takes the number from the hash, if it stands there.
+fn take(sets: &mut BTreeMap<u64, Numbers>, hash: u64, number: u64)
+    ensures { IsChanged hash number false sets.old sets.new }
 {
-    if let Some(hashes) = hashes {
-        hashes.take(hash, number);
+    if let Some(set) = sets.get_mut(&hash) {
+        set.take(number);
     }
 }
 
-/// The numbers of the messages with these Tos, under the hashes of the Tos; None where they are few, or where there is no memory for it.
-fn hashes_of(alloc: Global, list: &[To]) -> Option<Hashes>
-    ensures { AreUnder result list.now }
+/// The numbers of the messages with these Tos, under the hashes of the Tos; None where none are to be kept, where they are few, or where there is no
+/// memory for it.
+fn hashes_of(alloc: Global, list: &[To], are_kept: bool) -> Option<BTreeMap<u64, Numbers>>
+    ensures { IfSome result (AreUnder list.now) }
 {
-    if list.len() < MANY {
+    if !are_kept || list.len() < MANY {
         return None;
     }
-    let mut hashes = Some(Hashes::new(alloc));
+    let mut sets = BTreeMap::new(alloc);
     for at in 0..list.len() {
         let to = &list[at];
-        if note(alloc, &mut hashes, to.text.hash(), to.number).is_err() {
+        if put(alloc, &mut sets, to.text.hash(), to.number).is_err() {
             return None;
         }
     }
-    hashes
+    Some(sets)
 }

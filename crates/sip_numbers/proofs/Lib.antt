@@ -1,1 +1,3 @@
-pub mod bits
+pub mod WordLemmas
+pub mod PlaceLemmas
+pub mod BothLemmas

@@ -1,5 +1,5 @@
 //! Sets of numbers.
-ghost use Rattle.std.specs.Prelude.{◌≡◌, ◌==◌, ◌<◌, ◌≤◌, ◌^◌, ℕ, cond, true, false, IfSome, IfNone, OnOk, OnErr};
+ghost use Rattle.std.specs.Prelude.{◌≡◌, ◌==◌, ◌<◌, ◌≤◌, ◌+◌, ◌^◌, ℕ, cond, true, false, IfSome, IfNone, OnOk, OnErr, MatchResult};
 ghost use Rattle.sip_numbers.specs.Numbers.{IsFirstInBoth, NoneInBoth, has_bit, numbers_of};
 ghost use Rattle.sip_numbers.specs.inner.Numbers.{AreWords, IsFirstOf, IsPlaceFor};
 
@@ -36,6 +36,7 @@ impl Model for Numbers {
 
 impl Numbers {
     /// A set without numbers.
+    #[tactic(auto, unfolding(crate::specs::Numbers::numbers_of))]
     pub fn new(alloc: Global) -> Self
         ensures { (n : ℕ) → numbers_of result n ≡ false }
     {
@@ -45,30 +46,30 @@ impl Numbers {
     }
 
     /// Puts the number in. On an error the set is as before.
+    #[tactic(auto, using(crate::proofs::PlaceLemmas::changes))]
     pub fn put(&mut self, number: u64) -> Result<(), AllocError>
         ensures ok { OnOk result ((n : ℕ) → numbers_of self.new n ≡ cond (n == number) true (numbers_of self.old n)) }
         ensures err { OnErr result (self.new ≡ self.old) }
     {
         let block = number / 64;
         let bit = 1 << (number % 64);
-        let at = place_for(&self.words, block);
-        if at < self.words.len() && self.words[at].block == block {
-            self.words[at].bits |= bit;
-            return Ok(());
+        match place_for(&self.words, block) {
+            Ok(at) => {
+                self.words[at].bits |= bit;
+                Ok(())
+            }
+            Err(at) => Ok(self.words.insert(at, Word { block, bits: bit })?),
         }
-        self.words.insert(at, Word { block, bits: bit })?;
-        Ok(())
     }
 
     /// Takes the number out, if it is there.
+    #[tactic(auto, using(crate::proofs::PlaceLemmas::changes))]
     pub fn take(&mut self, number: u64)
         ensures { (n : ℕ) → numbers_of self.new n ≡ cond (n == number) false (numbers_of self.old n) }
     {
-        let block = number / 64;
-        let at = place_for(&self.words, block);
-        if at == self.words.len() || self.words[at].block != block {
+        let Ok(at) = place_for(&self.words, number / 64) else {
             return;
-        }
+        };
         let bits = self.words[at].bits & !(1 << (number % 64));
         if bits == 0 {
             let _word = self.words.remove(at);
@@ -78,12 +79,13 @@ impl Numbers {
     }
 
     /// The first number from `from` on that is in both sets.
+    #[tactic(auto, using(crate::proofs::BothLemmas::turns))]
     pub fn next_in_both(&self, other: &Numbers, from: u64) -> Option<u64>
         ensures found { IfSome result (IsFirstInBoth (numbers_of self.now) (numbers_of other.now) from) }
         ensures none { IfNone result (NoneInBoth (numbers_of self.now) (numbers_of other.now) from) }
     {
-        let mut at = place_for(&self.words, from / 64);
-        let mut beside = place_for(&other.words, from / 64);
+        let (Ok(mut at) | Err(mut at)) = place_for(&self.words, from / 64);
+        let (Ok(mut beside) | Err(mut beside)) = place_for(&other.words, from / 64);
         while at < self.words.len() && beside < other.words.len() {
             let word = self.words[at];
             let its = other.words[beside];
@@ -107,19 +109,20 @@ impl Numbers {
     }
 }
 
-/// The place of the first word of this block or a greater one, or how many words there are. Mostly the last word is asked for.
-fn place_for(words: &[Word], block: u64) -> usize
+/// The place of the word of this block, or the one where it would stand. Mostly the last word is asked for.
+fn place_for(words: &[Word], block: u64) -> Result<usize, usize>
     requires { AreWords words.now }
-    ensures { IsPlaceFor words.now block result }
+    ensures { MatchResult result (λ at. IsPlaceFor words.now block at (at + 1)) (λ at. IsPlaceFor words.now block at at) }
 {
     match words.last() {
-        Some(last) if last.block < block => words.len(),
-        Some(last) if last.block == block => words.len() - 1,
-        _ => words.partition_point(|word| word.block < block),
+        Some(last) if last.block < block => Err(words.len()),
+        Some(last) if last.block == block => Ok(words.len() - 1),
+        _ => words.binary_search_by_key(&block, |word| word.block),
     }
 }
 
 /// The first number from `from` on that the word has.
+#[tactic(auto, using(crate::proofs::WordLemmas::none))]
 fn first_from(word: Word, from: u64) -> Option<u64>
     requires { word.block < 2 ^ 58 }
     ensures found { IfSome result (IsFirstOf word from) }
@@ -129,12 +132,11 @@ fn first_from(word: Word, from: u64) -> Option<u64>
     if word.bits == 0 {
         return None;
     }
-    let block = from / 64;
-    if word.block < block {
+    // The bits of lesser numbers than `from` are left out.
+    let low = from.saturating_sub(64 * word.block);
+    if low >= 64 {
         return None;
     }
-    // In the block of `from`, the bits of lesser numbers are left out.
-    let low = if word.block == block { from % 64 } else { 0 };
     let bits = (word.bits >> low) << low;
     if bits == 0 {
         return None;

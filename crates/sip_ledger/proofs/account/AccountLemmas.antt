@@ -1,5 +1,5 @@
 -- Accounts stay accounts, and owe what they owed, while gains and strikes grow, are let go or are dropped.
-use Rattle.sip_ledger.proofs.Words.{◌+◌, common_steps, max, min, ◌≡◌, ℕ, ◌<◌, ◌≤◌, ◌&&◌, true, false, List, [], ◌∷◌, length, take, drop, get_or, refl, sym, ap, ◌∙◌, subst, arith, nat_tests, All, nat_le, cases_eq, cases_lt, le-leb, le-ltb, lt-leb, true≢false, false_from_ne_true, and-false, and-true, drop-map, get_or_append_left, get_or-map, length-map, length-take, take-map, take-take, All-cons, All-drop, All-get_or, All-head, All-nil, All-tail, All-take, All-weaker, Debt, Account, Gains, Strike, debts_print, AreAccounts, AreGains, AreSameGains, IsAccount, IsDropped, IsGain, IsLetGo, KeepsAccounts, account_debts, accounts_debts, entries_of, entry_at, is_left, is_struck, must_at, owes_at, holds}
+use Rattle.sip_ledger.proofs.Words.{◌+◌, max, min, ◌≡◌, ℕ, ◌<◌, ◌≤◌, ◌&&◌, true, false, List, [], ◌∷◌, length, take, refl, sym, ap, ◌∙◌, arith, nat_tests, All, nat_le, cases_eq, cases_lt, le-leb, le-ltb, lt-leb, ne_eqb, true≢false, false_from_ne_true, and-false, and-true, get_or_append_left, length-take, take-take, All-cons, All-head, All-nil, All-tail, All-weaker, Debt, Account, Gains, Strike, debts_print, AreGains, AreSameGains, IsAccount, IsDropped, IsGain, IsLetGo, KeepsAccounts, account_debts, accounts_debts, entries_of, entry_at, is_left, is_struck, must_at, owes_at, holds, numbers_of}
 use Rattle.sip_ledger.proofs.debts.ListedLemmas.{listed-same, listed-none}
 use Rattle.sip_ledger.proofs.gains.LeftLemmas.{entries_long, left-kept, listed-alike, owed-left, left-as}
 
@@ -21,7 +21,6 @@ Stays old new strikes strikes' a = IsAccount new strikes' a × (account_debts ne
 -- where each of the accounts stays, they all do, with the debts that they had
 each-stays : (old new : Gains) (strikes strikes' : List Strike) (rows : List Account) → All (Stays old new strikes strikes') rows →
     All (IsAccount new strikes') rows × (accounts_debts new strikes' rows ≡ accounts_debts old strikes rows)
-unfolding accounts_debts
 each-stays old new strikes strikes' [] each = (All-nil (IsAccount new strikes'), refl)
 each-stays old new strikes strikes' (a ∷ rows) each = grind (arith, nat_tests, All-head, All-tail, All-cons, each-stays old new strikes strikes' rows (All-tail (Stays old new strikes strikes') a rows each))
 
@@ -34,17 +33,17 @@ kept-all gains old new rows kept each =
 -- two accounts with the same `soft` must send the same gains
 pub soft-must : (gains : Gains) (a b : Account) (k : ℕ) → b.soft ≡ a.soft → must_at gains b k ≡ must_at gains a k
 unfolding must_at
-soft-must gains a b k soft = ap (λ s. holds gains.musts 0 k && nat_le s k) soft
+soft-must gains a b k soft = ap (λ s. numbers_of gains.musts k && nat_le s k) soft
 
 -- a gain below `soft` need not be sent
 pub must-below : (gains : Gains) (a : Account) (k : ℕ) → k < a.soft → false ≡ must_at gains a k
 unfolding must_at
-must-below gains a k low = sym (ap (λ b. holds gains.musts 0 k && b) (lt-leb a.soft k low) ∙ and-false (holds gains.musts 0 k))
+must-below gains a k low = sym (ap (λ b. numbers_of gains.musts k && b) (lt-leb a.soft k low) ∙ and-false (numbers_of gains.musts k))
 
 -- a gain from `soft` on must be sent if it must be as it was gained
-pub must-from : (gains : Gains) (a : Account) (k : ℕ) → a.soft ≤ k → holds gains.musts 0 k ≡ must_at gains a k
+pub must-from : (gains : Gains) (a : Account) (k : ℕ) → a.soft ≤ k → numbers_of gains.musts k ≡ must_at gains a k
 unfolding must_at
-must-from gains a k high = sym (ap (λ b. holds gains.musts 0 k && b) (le-leb a.soft k high) ∙ and-true (holds gains.musts 0 k))
+must-from gains a k high = sym (ap (λ b. numbers_of gains.musts k && b) (le-leb a.soft k high) ∙ and-true (numbers_of gains.musts k))
 
 -- two accounts must send the same gains at a place up to whose neighbours both are soft alike
 pub must-alike : (gains : Gains) (one other : Account) (from to k : ℕ) → from ≤ k → k < to → min (max one.soft from) to ≡ min (max other.soft from) to →
@@ -75,7 +74,7 @@ owes-over old new strikes a k entry left = grind (arith, nat_tests)
 -- an account owes over the new gains what it owes over the old ones
 pub record OwesAlike (old new : Gains) (strikes : List Strike) (a : Account) : Type 0 where
   pub owes : (k : ℕ) → owes_at new strikes a k ≡ owes_at old strikes a k
-  pub same : (k : ℕ) → owes_at old strikes a k ≡ true → (entry_at (entries_of new) k ≡ entry_at (entries_of old) k) × (holds new.musts 0 k ≡ holds old.musts 0 k)
+  pub same : (k : ℕ) → owes_at old strikes a k ≡ true → (entry_at (entries_of new) k ≡ entry_at (entries_of old) k) × (numbers_of new.musts k ≡ numbers_of old.musts k)
 
 -- an account that owes alike over old and new gains has the same debts
 over-debts : (old new : Gains) (strikes : List Strike) (a : Account) → length (entries_of old) ≤ length (entries_of new) → a.end ≤ length (entries_of old) →
@@ -109,23 +108,7 @@ dropped-alike old new strikes a place dropped none = grind (arith, nat_tests, ca
 
 -- an account that ends before a new gain owes alike with it
 pub grown-alike : (old new : Gains) (debt : Debt) (strikes : List Strike) (a : Account) → IsGain debt old new → a.end ≤ length (entries_of old) → OwesAlike old new strikes a
-grown-alike old new debt strikes a gain end = grind (arith, nat_tests, cases_lt, owes-over, left-as, past-end, owed-within, get_or_append_left)
-
--- the debts in a row of the list are the debts of the account of that row
-pub row-debts : (gains : Gains) (strikes : List Strike) (rows : List Account) (row : ℕ) (a : Account) → row < length rows → a ≡ get_or rows row a →
-    get_or (accounts_debts gains strikes rows) row [] ≡ account_debts gains strikes a
-unfolding accounts_debts
-row-debts gains strikes rows row a within is = get_or-map (account_debts gains strikes) rows row a [] within ∙ ap (account_debts gains strikes) (sym is)
-
--- what stands in a row is an account, where all are
-pub row-account : (gains : Gains) (strikes : List Strike) (rows : List Account) (row : ℕ) (a : Account) → row < length rows → a ≡ get_or rows row a → All (IsAccount gains strikes) rows →
-    IsAccount gains strikes a
-row-account gains strikes rows row a within is each = subst (IsAccount gains strikes) (sym is) (All-get_or (IsAccount gains strikes) rows row a within each)
-
--- there are as many lists of debts as rows
-pub debts_length : (gains : Gains) (strikes : List Strike) (rows : List Account) → length (accounts_debts gains strikes rows) ≡ length rows
-unfolding accounts_debts
-debts_length gains strikes rows = length-map rows (account_debts gains strikes)
+grown-alike old new debt strikes a gain end = grind (arith, nat_tests, cases_lt, ne_eqb, and-false, owes-over, left-as, past-end, owed-within, get_or_append_left)
 
 -- an account that ends where it starts has no debts
 pub empty-debts : (gains : Gains) (strikes : List Strike) (a : Account) → a.end ≤ a.start → account_debts gains strikes a ≡ []
@@ -136,18 +119,6 @@ empty-debts gains strikes a none = grind (arith, nat_tests, listed-none, cases_l
 pub empty-account : (gains : Gains) (strikes : List Strike) → IsAccount gains strikes (record { start = 0; end = 0; soft = 0; first = 0; last = 0; print = 0 })
 unfolding is_struck debts_print
 empty-account gains strikes = grind (arith, nat_tests, empty-debts)
-
--- the first n accounts are accounts, and have the first n lists of debts
-pub truncated : (gains : Gains) (strikes : List Strike) (rows : List Account) (n : ℕ) → AreAccounts gains strikes rows →
-    AreAccounts gains strikes (take n rows) × (accounts_debts gains strikes (take n rows) ≡ take n (accounts_debts gains strikes rows))
-unfolding accounts_debts
-truncated gains strikes rows n are = grind (arith, nat_tests, common_steps, All-take, take-map)
-
--- the accounts after the first n are accounts, and have the lists of debts after the first n
-pub without-first_rows : (gains : Gains) (strikes : List Strike) (rows : List Account) (n : ℕ) → AreAccounts gains strikes rows →
-    AreAccounts gains strikes (drop n rows) × (accounts_debts gains strikes (drop n rows) ≡ drop n (accounts_debts gains strikes rows))
-unfolding accounts_debts
-without-first_rows gains strikes rows n are = grind (arith, nat_tests, common_steps, All-drop, drop-map)
 
 -- lemmas for the prover under one name: what must be sent, by the place
 pub ruleset must_by_place = (must-below, must-from)

@@ -1,5 +1,5 @@
 -- The first debt of an account that a send at the moment t pays, of one message or of those that pass a test: k and `at` are places of gains.
-use Rattle.sip_ledger.proofs.Words.{◌≡◌, ◌≢◌, ℕ, ◌<◌, ◌≤◌, ◌==◌, ◌&&◌, Bool, true, false, not, List, length, ◌+◌, refl, sym, ap, ◌∙◌, arith, All, All-weaker, IfNone, IfSome, IsTrue, MatchOption, Option, None, Some, nat_le, cases_lt, lt-ltb, true≢false, nat_tests, Entry, Account, Gains, Strike, IsFirstPaid, PaysSome, is_payable, AreGains, IsAccount, IsFirstPaying, IsFirstPayable, IsUndropped, IsWithout, PaysSomeAt, account_debts, entries_of, entry_at, must_at, owes_at, pays_at, sooner, IsNextLeft, NoneLeft, holds, ap₂, and-false, and_right, cases_eq, eq-eqb, le-leb, lt-leb, ne_eqb, paid_by, is_left, is_struck, strikes_of}
+use Rattle.sip_ledger.proofs.Words.{◌≡◌, ◌≢◌, ℕ, ◌<◌, ◌≤◌, ◌==◌, ◌&&◌, Bool, true, false, not, List, length, ◌+◌, refl, sym, ap, ◌∙◌, arith, All, All-weaker, IfNone, IfSome, IsTrue, MatchOption, Option, None, Some, nat_le, cases_lt, lt-ltb, true≢false, nat_tests, Entry, Account, Gains, Strike, IsFirstPaid, PaysSome, is_payable, AreGains, IsAccount, IsFirstPaying, IsFirstPayable, IsUndropped, IsWithout, PaysSomeAt, account_debts, entries_of, entry_at, must_at, owes_at, pays_at, sooner, IsNextLeft, holds, ap₂, and-false, and_right, cases_eq, eq-eqb, le-leb, lt-leb, ne_eqb, paid_by, is_left, is_struck, strikes_of}
 use Rattle.sip_ledger.proofs.debts.ListedLemmas.{listed-each}
 use Rattle.sip_ledger.proofs.debts.OwedLemmas.{removed, paid-behind, paid-is}
 use Rattle.sip_ledger.proofs.gains.LeftLemmas.{held_left, left-kept, owed-left}
@@ -114,7 +114,8 @@ module _ (gains : Gains) (strikes : List Strike) (a : Account) {test : ℕ → B
   }
 
   -- where nothing is left of messages from `from` on that pass the test, what was found is the first of all
-  pub first-left : (first : Option ℕ) → IsFirstTo (entries_of gains) (owes_at gains strikes a) test t from first → NoneLeft gains.messages test from → IsFirstPaying (entries_of gains) (owes_at gains strikes a) test t first
+  pub first-left : (first : Option ℕ) → IsFirstTo (entries_of gains) (owes_at gains strikes a) test t from first → ((m k : ℕ) → from ≤ m → test m ≡ true → holds gains.messages m k ≡ false) →
+      IsFirstPaying (entries_of gains) (owes_at gains strikes a) test t first
   first-left first was none = first-all first was (λ k early owed passes low.
       let m = (entry_at (entries_of gains) k).message in grind (arith, true≢false, none m k, held_left gains m k, owed-left))
 

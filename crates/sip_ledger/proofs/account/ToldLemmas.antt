@@ -1,8 +1,8 @@
 -- What an account owes, place by place: its debts, whether another account owes the same, and the least deadline of what it must send.
-use Rattle.sip_ledger.proofs.Words.{blank, All, All-head, All-tail, fold, IfSome, list_any, MatchOption, max, min, ◌≡◌, ◌≢◌, ℕ, ◌+◌, ◌<◌, ◌≤◌, ◌==◌, ◌&&◌, ◌||◌, Bool, true, false, List, [], ◌∷◌, ◌++◌, length, refl, sym, ap, ◌∙◌, arith, append-nil, nat_tests, IsTrue, Option, Some, None, ◌↔◌, option_to_list, cases_eq, cases_lt, eq-eqb, eqb-true, false_from_ne_true, true≢false, append_cancel_left, length-append, length-take-le, take-append-le, slice_get, take, take_all, Debt, Account, Gains, Strike, debt_deadlines, earliest, debt_of, AreGains, IsAccount, IsAfter, SharesNext, account_debts, entries_of, entry_at, is_left, is_struck, must_at, owes_at, strikes_of, holds}
+use Rattle.sip_ledger.proofs.Words.{blank, All, All-head, All-tail, fold, IfSome, list_any, MatchOption, max, min, ◌≡◌, ◌≢◌, ℕ, ◌+◌, ◌<◌, ◌≤◌, ◌==◌, ◌&&◌, ◌||◌, Bool, true, false, List, [], ◌∷◌, ◌++◌, length, refl, sym, ap, ◌∙◌, arith, append-nil, nat_tests, IsTrue, Option, Some, None, ◌↔◌, option_to_list, cases_eq, cases_lt, eq-eqb, eqb-true, false_from_ne_true, true≢false, append_cancel_left, length-append, length-take-le, take-append-le, slice_get, take, take_all, Debt, Account, Gains, Strike, debt_deadlines, earliest, debt_of, AreGains, IsAccount, IsAfter, SharesNext, account_debts, entries_of, entry_at, is_left, is_struck, must_at, owes_at, strikes_of, numbers_of, drop}
 use Rattle.sip_ledger.proofs.debts.OwedLemmas.{listed-any}
 use Rattle.sip_ledger.proofs.gains.LeftLemmas.{left-kept, owed-left, rising_kept}
-use Rattle.sip_ledger.proofs.debts.ListedLemmas.{back, back-none, back-set, front, front-gap, front-next, front-on, listed-each, listed-none, listed-same, parts}
+use Rattle.sip_ledger.proofs.debts.ListedLemmas.{back, back-set, front, front-gap, front-next, front-on, listed-each, listed-none, listed-same, parts}
 use Rattle.sip_ledger.proofs.account.AccountLemmas.{kept-start, must-alike, must-below, must-from, owed-within, past-end, soft-must}
 use Rattle.sip_ledger.proofs.account.WithoutLemmas.{before-start}
 
@@ -44,7 +44,8 @@ module _ {gains : Gains} {strikes : List Strike} {a : Account} where
   -- before its end it owes all of its debts
   pub told-all : {place : ℕ} {debts : List Debt} → IsAccount gains strikes a → IsToldTo gains strikes a place debts → a.end ≤ place → debts ≡ account_debts gains strikes a
   told-all {place} {debts} is was past =
-      let none : back (owes_at gains strikes a) (must_at gains a) (entries_of gains) place ≡ [] = grind (arith, back-none, past-end) in
+      let none : back (owes_at gains strikes a) (must_at gains a) (entries_of gains) place ≡ [] =
+      listed-none (owes_at gains strikes a) (must_at gains a) place (drop place (entries_of gains)) (λ k low high. past-end gains strikes a k (omega (arith, low, past))) in
       sym (told-split is was ∙ ap (λ l. debts ++ l) none ∙ append-nil debts)
 
   -- what it owes first is the debt of the place where it starts
@@ -71,10 +72,6 @@ pub record AreAt (gains : Gains) (strikes : List Strike) (one other : Account) (
 
 -- What follows is of two accounts that are compared, `one` and `other`, by one list of gains and what was struck from it.
 module _ {gains : Gains} {strikes : List Strike} {one other : Account} (is : IsAccount gains strikes one) (is_other : IsAccount gains strikes other) where
-  -- AreAt holds at the starts of two accounts
-  pub at-start : AreAt gains strikes one other one.start other.start
-  at-start = record { debts = []; told = told-none is refl; told_beside = told-none is_other refl }
-
   -- AreAt goes on with the next places of both accounts after what they share, where both owe the same debt at their places
   pub at-more : {at beside n next next_beside : ℕ} (d : Debt) → AreAt gains strikes one other at beside → at < one.end → beside < other.end →
       d ≡ debt_of (entry_at (entries_of gains) at) (must_at gains one at) → d ≡ debt_of (entry_at (entries_of gains) beside) (must_at gains other beside) →
@@ -166,7 +163,7 @@ pub record IsLeastTo (gains : Gains) (strikes : List Strike) (a : Account) (from
   pub none : gains.rises ≡ true → least ≡ None
 
 -- a gain that must be sent was gained so, at `soft` or after it
-must-parts : (gains : Gains) (a : Account) (k : ℕ) → must_at gains a k ≡ true → (holds gains.musts 0 k ≡ true) × (a.soft ≤ k)
+must-parts : (gains : Gains) (a : Account) (k : ℕ) → must_at gains a k ≡ true → (numbers_of gains.musts k ≡ true) × (a.soft ≤ k)
 must-parts gains a k is = grind (arith, nat_tests, cases_lt, false_from_ne_true, true≢false, must-below, must-from)
 
 -- What follows is of one account and what it must send, over places from `from` up to `at`.
@@ -195,7 +192,7 @@ module _ (gains : Gains) (strikes : List Strike) (a : Account) where
       least-of (entry_at (entries_of gains) at).deadline (due-there at is owed must) (λ k owed_k must_k. grind (arith, nat_tests, cases_lt, left-kept, owed-left, none k, rising_kept gains at k are rises))
 
   -- where nothing that must be sent was gained from `from` up to the account's end, the least deadline so far is that of all
-  pub least-last : {from : ℕ} (at : ℕ) (least : Option ℕ) → IsLeastTo gains strikes a from least → ((k : ℕ) → from ≤ k → k < at → holds gains.musts 0 k ≡ false) → a.end ≤ at →
+  pub least-last : {from : ℕ} (at : ℕ) (least : Option ℕ) → IsLeastTo gains strikes a from least → ((k : ℕ) → from ≤ k → k < at → numbers_of gains.musts k ≡ false) → a.end ≤ at →
       least ≡ earliest (debt_deadlines (account_debts gains strikes a))
   unfolding account_debts
   least-last at None was gap past =
@@ -205,25 +202,25 @@ module _ (gains : Gains) (strikes : List Strike) (a : Account) where
 
 -- What follows is of an account of which the least deadline is known before the place `from`, and from there up to `at` nothing was gained that must be sent.
 module _ {gains : Gains} {strikes : List Strike} {a : Account} {from at : ℕ} {least : Option ℕ} (was : IsLeastTo gains strikes a from least) (order : from ≤ at)
-    (gap : (k : ℕ) → from ≤ k → k < at → holds gains.musts 0 k ≡ false) where
+    (gap : (k : ℕ) → from ≤ k → k < at → numbers_of gains.musts k ≡ false) where
   -- IsLeastTo goes on over a place that the account does not owe
   pub least-passed : owes_at gains strikes a at ≡ false → IsLeastTo gains strikes a (at + 1) least
   least-passed unowed = grind (arith, nat_tests, cases_lt, cases_eq, true≢false, must-parts, was, gap)
 
   -- IsLeastTo goes on over a place that is owed and must be sent, with its deadline among the others
-  pub least-found : {moment : ℕ} → IsAccount gains strikes a → holds gains.musts 0 at ≡ true → owes_at gains strikes a at ≡ true →
+  pub least-found : {moment : ℕ} → IsAccount gains strikes a → numbers_of gains.musts at ≡ true → owes_at gains strikes a at ≡ true →
       Some moment ≡ earliest ((entry_at (entries_of gains) at).deadline ∷ option_to_list least) → gains.rises ≡ false → IsLeastTo gains strikes a (at + 1) (Some moment)
   least-found account held owed is falls =
       let there = due-there gains strikes a at account owed (sym (must-from gains a at (omega (arith, was.soft, order))) ∙ held) in
       grind (arith, nat_tests, cases_lt, cases_eq, true≢false, must-parts, there, was, gap)
 
   -- where deadlines rise, the first one that is found is the least of all
-  pub least-first_due : {moment : ℕ} → AreGains gains → IsAccount gains strikes a → holds gains.musts 0 at ≡ true → owes_at gains strikes a at ≡ true →
+  pub least-first_due : {moment : ℕ} → AreGains gains → IsAccount gains strikes a → numbers_of gains.musts at ≡ true → owes_at gains strikes a at ≡ true →
       Some moment ≡ earliest ((entry_at (entries_of gains) at).deadline ∷ option_to_list least) → gains.rises ≡ true → Some moment ≡ earliest (debt_deadlines (account_debts gains strikes a))
   least-first_due gained is held owed here rises = grind (arith, nat_tests, cases_lt, true≢false, must-parts, must-from, leading, was, gap)
 
 -- lemmas for the prover under one name: what an account owes, from debt to debt
-pub ruleset told_by_place = (kept-start, told-none, told-all)
+pub ruleset told_by_place = (kept-start, told-none, told-first, told-all, take_all)
 
 -- lemmas for the prover under one name: the least deadline of what an account must send first
 pub ruleset led_by_start = (before-start, kept-start, leading)

@@ -1,6 +1,6 @@
 -- An account loses one of its debts, or gains one: a is the account before and b after it, and `old` and `new` are the strikes before and after it.
 -- w is the worth of the debt that is lost, and `print` the print without it, or that the new account has that print.
-use Rattle.sip_ledger.proofs.Words.{◌≡◌, ◌≢◌, ℕ, ◌+◌, ◌<◌, ◌≤◌, ◌%◌, ◌^◌, ◌&&◌, true, false, List, [], ◌∷◌, ◌++◌, length, get_or, sym, ap, ◌∙◌, arith, nat_tests, nat_le, and_right, cases_lt, le-leb, lt-leb, lt-ltb, and-false, or-false, or-true, get_or_push, length-append, sum_by_push, mod-add-mod, Debt, Account, Gains, Strike, debts_print, worth_of, debt_of, IsAccount, IsAfter, IsGain, IsNextGain, IsStruck, KeepsAccounts, account_debts, entries_of, entry_at, is_left, is_struck, must_at, owes_at, strikes_of, holds, common_steps, ◌-◌, lit<, eq-eqb, ne_eqb, true≢false, sum_by-append, sum_by-cons, mod_below, add-mod_right, mod-eq_of_lt, IsWithout}
+use Rattle.sip_ledger.proofs.Words.{◌≡◌, ◌≢◌, ℕ, ◌+◌, ◌<◌, ◌≤◌, ◌%◌, ◌^◌, ◌&&◌, true, false, List, [], ◌∷◌, ◌++◌, length, get_or, sym, ap, ◌∙◌, arith, nat_tests, nat_le, and_right, cases_lt, le-leb, lt-leb, lt-ltb, and-false, or-false, or-true, get_or_push, length-append, sum_by_push, mod-add-mod, Debt, Account, Gains, Strike, debts_print, worth_of, debt_of, IsAccount, IsAfter, IsGain, IsNextGain, IsStruck, KeepsAccounts, account_debts, entries_of, entry_at, is_left, is_struck, must_at, owes_at, strikes_of, numbers_of, common_steps, ◌-◌, lit<, eq-eqb, ne_eqb, true≢false, sum_by-append, sum_by-cons, mod_below, add-mod_right, mod-eq_of_lt, IsWithout}
 use Rattle.sip_ledger.proofs.debts.OwedLemmas.{gained-debts, IsCut, cut-at}
 use Rattle.sip_ledger.proofs.gains.LeftLemmas.{entries_long, held_left, left-kept, owed-left}
 use Rattle.sip_ledger.proofs.account.AccountLemmas.{grown-alike, over-all, past-end, owed-within, same-keeps, soft-must}
@@ -96,7 +96,7 @@ gained-account gains old new a b debt place is next here others soft low end fir
     let debts : account_debts gains new b ≡ account_debts gains old a ++ debt ∷ [] =
     gained-debts entries (owes_at gains old a) (must_at gains a) (owes_at gains new b) (must_at gains b) place next.gain.within
     (λ k past. past-end gains old a k (omega (arith, past, next.end))) here others
-    (λ k other. ap (λ s. holds gains.musts 0 k && nat_le s k) soft)
+    (λ k other. ap (λ s. numbers_of gains.musts k && nat_le s k) soft)
     ∙ ap (λ d. account_debts gains old a ++ d ∷ []) same in
     -- it stands after all others, and the account is right with it
     let account : IsAccount gains new b = grind (arith, print-more) in

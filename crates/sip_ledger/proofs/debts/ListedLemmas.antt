@@ -1,5 +1,5 @@
 -- The debts of a list of entries: `o` tells which places are owed, and `m` which of them must be sent.
-use Rattle.sip_ledger.proofs.Words.{blank, common_steps, nat_tests, ◌≡◌, ℕ, zero, suc, ◌+◌, ◌-◌, ◌<◌, ◌≤◌, Bool, true, false, ◌&&◌, ◌||◌, cond, List, [], ◌∷◌, ◌++◌, length, take, drop, get_or, map, filter, refl, sym, ap, ◌∙◌, subst, arith, ap₂, All, nat_le, append-nil, append_cancel_right, drop_more, length-drop, length-take-le, take-append-drop, take-take, take_more, get_or_default, All-nil, All-cons, Debt, Entry, counts_at, softened_debt, debt_of, debts_from, IsGap}
+use Rattle.sip_ledger.proofs.Words.{blank, common_steps, nat_tests, ◌≡◌, ℕ, suc, ◌+◌, ◌<◌, ◌≤◌, Bool, true, false, ◌&&◌, ◌||◌, cond, List, [], ◌∷◌, ◌++◌, length, take, drop, get_or, map, filter, refl, sym, ap, ◌∙◌, subst, arith, ap₂, All, nat_le, append-nil, drop_more, length-drop, length-take-le, take-append-drop, take-take, take_more, get_or_default, All-nil, All-cons, Debt, Entry, counts_at, softened_debt, debt_of, debts_from, IsGap}
 
 -- where P holds of all of a list, and of a first debt if the test lets it stand, it holds of all that stands
 cond-All : (P : Debt → Type 0) (b : Bool) (d : Debt) (xs : List Debt) → (b ≡ true → P d) → All P xs → All P (cond b (d ∷ xs) xs)
@@ -69,38 +69,10 @@ pub back-set : (o m : ℕ → Bool) (entries : List Entry) (k : ℕ) (e : Entry)
     back o m entries k ≡ debt_of (get_or entries k e) (m k) ∷ back o m entries (k + 1)
 back-set o m entries k e within is = grind (arith, nat_tests, common_steps, back-at)
 
--- where k is not owed, the debts from k on are those from k + 1 on
-pub back-unset : (o m : ℕ → Bool) (entries : List Entry) (k : ℕ) → k < length entries → o k ≡ false → back o m entries k ≡ back o m entries (k + 1)
-back-unset o m entries k within is =
-    back-at o m entries k blank within
-    ∙ ap (λ b. cond b (debt_of (get_or entries k blank) (m k) ∷ back o m entries (k + 1)) (back o m entries (k + 1))) is
-
--- where no place from k on is owed, there are no debts from k on
-pub back-none : (o m : ℕ → Bool) (entries : List Entry) (k : ℕ) → ((j : ℕ) → k ≤ j → o j ≡ false) → back o m entries k ≡ []
-back-none o m entries k none = listed-none o m k (drop k entries) (λ j from below. none j from)
-
--- where nothing is owed from a place on, the debts are those before it
-pub listed-front : (o m : ℕ → Bool) (entries : List Entry) (at : ℕ) → at ≤ length entries → ((k : ℕ) → at ≤ k → o k ≡ false) → debts_from o m 0 entries ≡ front o m entries at
-listed-front o m entries at within last = parts o m entries at within ∙ ap (λ l. front o m entries at ++ l) (back-none o m entries at last) ∙ append-nil (front o m entries at)
-
 -- where the same places before k are owed and must be sent, the debts before k are the same
 pub front-same : (o m o' m' : ℕ → Bool) (entries : List Entry) (k : ℕ) → k ≤ length entries → ((j : ℕ) → j < k → (o j ≡ o' j) × (m j ≡ m' j)) →
     front o m entries k ≡ front o' m' entries k
 front-same o m o' m' entries k within agree = grind (arith, nat_tests, listed-same, length-take-le)
-
--- where the same places from k on are owed and must be sent, the debts from k on are the same
-pub back-same : (o m o' m' : ℕ → Bool) (entries : List Entry) (k : ℕ) → ((j : ℕ) → k ≤ j → (o j ≡ o' j) × (m j ≡ m' j)) →
-    back o m entries k ≡ back o' m' entries k
-back-same o m o' m' entries k agree = listed-same o m o' m' k (drop k entries) (λ j from below. agree j from)
-
--- where no place from i up to i + n is owed, the debts from i on are those from i + n on
-pub back-gap : (o m : ℕ → Bool) (entries : List Entry) (i n : ℕ) → i + n ≤ length entries → IsGap o i (i + n) → back o m entries i ≡ back o m entries (i + n)
-back-gap o m entries i zero within gap = let none : i ≡ i + 0 = omega arith in ap (back o m entries) none
-back-gap o m entries i (suc n) within gap = grind (arith, nat_tests, back-unset, back-gap o m entries (i + 1) n)
-
--- where no place from i up to k is owed, the debts from i on are those from k on
-pub back-over : (o m : ℕ → Bool) (entries : List Entry) (i k : ℕ) → i ≤ k → k ≤ length entries → IsGap o i k → back o m entries i ≡ back o m entries k
-back-over o m entries i k order within gap = let is : i + (k - i) ≡ k = omega (arith, order) in grind (arith, is, back-gap o m entries i (k - i))
 
 -- where the places that stay owed are those whose debts count still at t, the debts are those that count still
 pub listed-counting : (t : ℕ) (o m o' : ℕ → Bool) (i : ℕ) (xs : List Entry) →
@@ -122,9 +94,9 @@ listed-softened o m m' i (x ∷ xs) none = grind (arith, nat_tests, none i, list
 pub front-gap : (o m : ℕ → Bool) (entries : List Entry) (from at : ℕ) → from ≤ at → at ≤ length entries → IsGap o from at →
     front o m entries at ≡ front o m entries from
 front-gap o m entries from at order within gap =
-    append_cancel_right (front o m entries at) (front o m entries from) (back o m entries at)
-    (sym (parts o m entries at within) ∙ parts o m entries from (omega (arith, order, within))
-    ∙ ap (λ l. front o m entries from ++ l) (back-over o m entries from at order within gap))
+    let xs = take at entries in
+    let none : back o m xs from ≡ [] = listed-none o m from (drop from xs) (λ k low high. gap k low (omega (arith, high, order, length-drop from xs, length-take-le at entries within))) in
+    grind (arith, parts o m xs from, none, append-nil, take-take, length-take-le)
 
 -- where the next place from `from` on that is owed is `at`, the debts before `at + 1` are those before `from` and its own
 pub front-next : (o m : ℕ → Bool) (entries : List Entry) (from at : ℕ) (e : Entry) → from ≤ at → at < length entries → IsGap o from at → o at ≡ true →

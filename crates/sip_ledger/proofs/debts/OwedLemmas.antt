@@ -1,6 +1,6 @@
 -- What is owed once one place changes (o and m say which places are owed and which must be, o' and m' which then), what a payment leaves, and longer runs.
-use Rattle.sip_ledger.proofs.Words.{blank, ◌≡◌, ◌+◌, ◌-◌, List, [], ◌∷◌, ◌++◌, length, get_or, set, arith, nat_tests, cases_eq, flat_map-append, append-nil, append_assoc, drop_all, get_or_default, get_or-set_same, get_or-set_other, length-set, replicate_more, set_split, take-append-drop, drop_more, All-set, Debt, Run, debts_in, AreRuns, ◌∙◌, ℕ, All, refl, sym, ap, cond, IsTrue, false_from_ne_true, All-head, All-tail, IsWithoutFirst, is_payable, paid_by, ◌≢◌, ◌<◌, ◌≤◌, Bool, true, false, take, ap₂, subst, list_any, list_any-append, get_or-take, length-append, length-take-le, Entry, debt_of, debts_from, IsWithout, EndsWith}
-use Rattle.sip_ledger.proofs.debts.ListedLemmas.{listed-front, front, back, parts, back-set, back-unset, back-same, back-none, front-same, listed-each}
+use Rattle.sip_ledger.proofs.Words.{blank, ◌≡◌, ◌+◌, ◌-◌, List, [], ◌∷◌, ◌++◌, length, get_or, set, arith, nat_tests, cases_eq, flat_map-append, append-nil, append_assoc, drop_all, get_or_default, get_or-set_same, get_or-set_other, length-set, replicate_more, set_split, take-append-drop, drop_more, All-set, Debt, Run, debts_in, AreRuns, ◌∙◌, ℕ, All, refl, sym, ap, cond, IsTrue, false_from_ne_true, All-head, All-tail, IsWithoutFirst, is_payable, paid_by, ◌≢◌, ◌<◌, ◌≤◌, Bool, true, false, take, drop, ap₂, subst, list_any, list_any-append, get_or-take, length-take-le, Entry, debt_of, debts_from, IsWithout, EndsWith}
+use Rattle.sip_ledger.proofs.debts.ListedLemmas.{front, back, parts, back-at, back-set, listed-none, listed-same, front-same, listed-each}
 
 -- the new debts are the old ones without `debt`, which stood between those of `before` and those of `after`
 pub record IsCut (before : List Debt) (debt : Debt) (after old new : List Debt) : Type 0 where
@@ -18,8 +18,9 @@ cut-at entries o m o' m' at within is without must =
       rest = parts o' m' entries at less
           ∙ ap₂ (λ a b. a ++ b)
           (front-same o' m' o m entries at less (λ j below. let other : j ≢ at = omega (arith, below) in (without.others j other, must j)))
-          (back-unset o' m' entries at within without.gone
-          ∙ back-same o' m' o m entries (at + 1) (λ j above. let other : j ≢ at = omega (arith, above) in (without.others j other, must j)));
+          (back-at o' m' entries at blank within
+          ∙ ap (λ b. cond b (debt_of (get_or entries at blank) (m' at) ∷ back o' m' entries (at + 1)) (back o' m' entries (at + 1))) without.gone
+          ∙ listed-same o' m' o m (at + 1) (drop (at + 1) entries) (λ j above below. let other : j ≢ at = omega (arith, above) in (without.others j other, must j)));
     }
 
 -- where `at` is the first place that is owed whose debt has P, the debts without that place are those of before without the first of which P holds
@@ -49,24 +50,17 @@ gained-debts entries o m o' m' at inside last here others must_others =
     let debt = debt_of (get_or entries at blank) (m' at) in
     let less : at ≤ length entries = omega (arith, inside) in
     -- before the place was owed, it had nothing after it
-    let old = listed-front o m entries at less last in
+    let old = parts o m entries at less ∙ ap (λ l. front o m entries at ++ l) (listed-none o m at (drop at entries) (λ j above below. last j above)) ∙ append-nil (front o m entries at) in
     parts o' m' entries at less
     ∙ ap₂ (λ a b. a ++ b)
     (front-same o' m' o m entries at less (λ j below. let not : j ≢ at = omega (arith, below) in (others j not, must_others j not)) ∙ sym old)
     (back-set o' m' entries at blank inside here
-    ∙ ap (λ l. debt ∷ l) (back-none o' m' entries (at + 1) (λ j above. let not : j ≢ at = omega (arith, above) in others j not ∙ last j (omega (arith, above)))))
+    ∙ ap (λ l. debt ∷ l) (listed-none o' m' (at + 1) (drop (at + 1) entries) (λ j above below. let not : j ≢ at = omega (arith, above) in others j not ∙ last j (omega (arith, above)))))
 
 -- where the debt of a place that is owed passes a test, one of the debts does
 pub listed-any : (test : Debt → Bool) (entries : List Entry) (o m : ℕ → Bool) (at : ℕ) → at < length entries → o at ≡ true →
     test (debt_of (get_or entries at blank) (m at)) ≡ true → list_any test (debts_from o m 0 entries) ≡ true
 listed-any test entries o m at within is passes = grind (arith, nat_tests, parts o m entries at, back-set o m entries at blank, list_any-append)
-
--- where a place is owed, the list of debts is not empty
-pub some-debt : (entries : List Entry) (o m : ℕ → Bool) (k : ℕ) → k < length entries → o k ≡ true → debts_from o m 0 entries ≢ []
-some-debt entries o m k within is none =
-    let whole = parts o m entries k (omega (arith, within)) ∙ ap (λ l. front o m entries k ++ l) (back-set o m entries k blank within is) in
-    let long = length-append (front o m entries k) (debt_of (get_or entries k blank) (m k) ∷ back o m entries (k + 1)) in
-    absurd (omega (arith, ap length (sym whole ∙ none), long))
 
 -- What follows is of a send of one message at the moment t.
 module _ (message t : ℕ) where

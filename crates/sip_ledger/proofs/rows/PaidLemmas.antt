@@ -1,12 +1,12 @@
 -- Many rows gain a debt, lose what is past, place by place, or are paid and put after the others.
 -- Of places o tells which are owed at first, o' and o'' which later, and m which must be sent; t is a moment.
-use Rattle.sip_ledger.proofs.Words.{◌≡◌, ℕ, ◌+◌, ◌<◌, ◌≤◌, ◌&&◌, ◌||◌, Bool, true, false, List, length, take, filter, arith, nat_tests, nat_le, and-false, cases_eq, cases_lt, lt-leb, take-length, get_or_default, Entry, Account, Gains, Strike, counts_at, AreGains, IsAccount, IsExpiredTo, IsUndropped, IsWithout, account_debts, entries_of, entry_at, must_at, owes_at, [], ◌∷◌, ◌++◌, drop, get_or, set, map, refl, sym, ap, ◌∙◌, All, fold, min, le-leb, or_right, All-filter, All-get_or, All-head, All-map, All-tail, All-weaker, Debt, debt_deadlines, earliest, is_timely, is_within, AreAccounts, KeepsAccounts, accounts_debts, common_steps, cond, Option, Some, None, IfSome, option_to_list, list_any, take-append_seam, append-nil, append_assoc, get_or_append_left, length-append, map-append, owed_in, paid_rows, is_payable, paid_by, from_to}
+use Rattle.sip_ledger.proofs.Words.{◌≡◌, ℕ, ◌+◌, ◌<◌, ◌≤◌, ◌&&◌, ◌||◌, Bool, true, false, List, length, take, filter, arith, nat_tests, nat_le, and-false, cases_eq, cases_lt, lt-leb, take-length, get_or_default, Entry, Account, Gains, Strike, counts_at, AreGains, IsAccount, IsExpiredTo, IsUndropped, IsWithout, account_debts, entries_of, entry_at, must_at, owes_at, [], ◌∷◌, ◌++◌, drop, get_or, set, map, refl, sym, ap, ◌∙◌, All, fold, min, le-leb, or_right, All-get_or, All-head, All-map, All-push, All-tail, Debt, debt_deadlines, is_timely, AreAccounts, KeepsAccounts, accounts_debts, common_steps, cond, Option, Some, None, IfSome, option_to_list, list_any, take-append_seam, append-nil, append_assoc, get_or_append_left, length-append, length-map, map-append, owed_in, paid_rows, is_payable, paid_by, from_to}
 use Rattle.sip_ledger.proofs.gains.LeftLemmas.{entries_long, rising_kept, left-kept, owed-left}
 use Rattle.sip_ledger.proofs.debts.ListedLemmas.{listed-counting, listed-same, listed-each}
-use Rattle.sip_ledger.proofs.account.AccountLemmas.{empty-debts, kept-start, past-end, soft-must, debts_length}
+use Rattle.sip_ledger.proofs.account.AccountLemmas.{empty-debts, kept-start, past-end, soft-must}
 use Rattle.sip_ledger.proofs.account.WithoutLemmas.{before-start}
 use Rattle.sip_ledger.proofs.lists.EachLemmas.{changing, changing-front, changing-length, changing-more, changing-all, unchanged-each, from_to-end, passing-more}
-use Rattle.sip_ledger.proofs.rows.SeenLemmas.{changed-by, on-error, over-to, unchanged, account-at, can-pay, pushed-to, row-inside}
+use Rattle.sip_ledger.proofs.rows.SeenLemmas.{changed-by, on-error, over-to, unchanged, account-at, can-pay}
 use Rattle.sip_ledger.proofs.debts.OwedLemmas.{unpaid-is}
 use Rattle.sip_ledger.proofs.account.FindLemmas.{paid-account, unpaid-account}
 
@@ -38,14 +38,10 @@ module _ {debt : Debt} {from k : ℕ} {old : List (List Debt)} {gains : Gains} {
       let all = changed-by (with_debt debt) new k a b kept are.accounts are.debts inside is account debts in
       record { accounts = all.0; debts = all.1 ∙ changing-more (with_debt debt) from k old [] low within }
 
-  -- the rows before `from` owe what they owed
-  pub gained-front : HaveGained debt from k old gains strikes rows → from ≤ k → take from (accounts_debts gains strikes rows) ≡ take from old
-  gained-front are low = ap (take from) are.debts ∙ changing-front (with_debt debt) from k old low
-
 -- where no debt is past, none goes
-kept-each : (t : ℕ) (xs : List Debt) → All (λ d. counts_at t d ≡ true) xs → filter (counts_at t) xs ≡ xs
-kept-each t [] all = refl
-kept-each t (x ∷ xs) all = grind (arith, nat_tests, All-head (λ d. counts_at t d ≡ true) x xs all, kept-each t xs (All-tail (λ d. counts_at t d ≡ true) x xs all))
+kept-late : (t : ℕ) (xs : List Debt) → All (λ d. t ≤ d.deadline) xs → filter (counts_at t) xs ≡ xs
+kept-late t [] all = refl
+kept-late t (x ∷ xs) all = grind (arith, nat_tests, or_right x.must (nat_le t x.deadline) (le-leb t x.deadline (All-head (λ (d : Debt). t ≤ d.deadline) x xs all)), kept-late t xs (All-tail (λ (d : Debt). t ≤ d.deadline) x xs all))
 
 -- where no gain that is kept is past, no debt of an account is
 debts-late : (gains : Gains) (strikes : List Strike) (a : Account) (t : ℕ) → AreGains gains → ((k : ℕ) → IsUndropped gains k → t ≤ (entry_at (entries_of gains) k).deadline) →
@@ -57,50 +53,35 @@ debts-late gains strikes a t are late =
 -- where no gain that is kept is past, an account has no debt that goes
 pub none-goes : (gains : Gains) (strikes : List Strike) (a : Account) (t : ℕ) → AreGains gains → ((k : ℕ) → IsUndropped gains k → t ≤ (entry_at (entries_of gains) k).deadline) →
     filter (counts_at t) (account_debts gains strikes a) ≡ account_debts gains strikes a
-none-goes gains strikes a t are late =
-    let debts = account_debts gains strikes a in
-    kept-each t debts (All-weaker (λ (d : Debt). t ≤ d.deadline) (λ d. counts_at t d ≡ true) (λ d late. or_right d.must (nat_le t d.deadline) (le-leb t d.deadline late)) debts (debts-late gains strikes a t are late))
+none-goes gains strikes a t are late = kept-late t (account_debts gains strikes a) (debts-late gains strikes a t are late)
 
 -- where no gain that is kept is past, what many rows owe is as it is once what is past is dropped from some
 pub none-past : (gains : Gains) (strikes : List Strike) (rows : List Account) (seen : List (List Debt)) (from t : ℕ) → AreGains gains → accounts_debts gains strikes rows ≡ seen →
     ((k : ℕ) → IsUndropped gains k → t ≤ (entry_at (entries_of gains) k).deadline) → seen ≡ take from seen ++ map (filter (counts_at t)) (drop from seen)
-unfolding accounts_debts
 none-past gains strikes rows seen from t are view late =
     let none = All-map (λ (owes : List Debt). filter (counts_at t) owes ≡ owes) (account_debts gains strikes) rows (λ k d below. none-goes gains strikes (get_or rows k d) t are late) in grind (arith, none, unchanged-each, All-get_or)
 
--- the least of moments that are not before t is not before it
-least-late : (t x : ℕ) (ms : List ℕ) → t ≤ x → All (λ m. t ≤ m) ms → t ≤ fold min x ms
+-- where no debt is past, the least of a moment that is not past and of the deadlines of what must be sent is not past
+least-late : (t x : ℕ) (debts : List Debt) → t ≤ x → All (λ d. t ≤ d.deadline) debts → t ≤ fold min x (debt_deadlines debts)
 least-late t x [] low all = low
-least-late t x (m ∷ ms) low all = least-late t (min x m) ms (omega (arith, low, All-head (λ n. t ≤ n) m ms all)) (All-tail (λ n. t ≤ n) m ms all)
+least-late t x (d ∷ debts) low all = grind (arith, nat_tests, All-head (λ d. t ≤ d.deadline) d debts all, All-tail (λ d. t ≤ d.deadline) d debts all, least-late t x debts, least-late t (min x d.deadline) debts)
 
--- where no moment is before t, t is within the earliest of them
-within-all : (t : ℕ) (ms : List ℕ) → All (λ m. t ≤ m) ms → is_within t (earliest ms) ≡ true
-within-all t [] all = refl
-within-all t (m ∷ ms) all = le-leb t (fold min m ms) (least-late t m ms (All-head (λ n. t ≤ n) m ms all) (All-tail (λ n. t ≤ n) m ms all))
+-- where no debt is past, nothing that must be sent is
+timely-all : (t : ℕ) (debts : List Debt) → All (λ d. t ≤ d.deadline) debts → is_timely t debts ≡ true
+timely-all t [] all = refl
+timely-all t (d ∷ debts) all = grind (arith, nat_tests, le-leb, All-head (λ d. t ≤ d.deadline) d debts all, All-tail (λ d. t ≤ d.deadline) d debts all, least-late t d.deadline debts, timely-all t debts)
 
 -- where no gain is past, a row is timely
 pub none_late : (gains : Gains) (strikes : List Strike) (a : Account) (t : ℕ) → AreGains gains → ((k : ℕ) → IsUndropped gains k → t ≤ (entry_at (entries_of gains) k).deadline) →
     is_timely t (account_debts gains strikes a) ≡ true
-none_late gains strikes a t are late =
-    let must = filter (λ (d : Debt). d.must) (account_debts gains strikes a) in
-    within-all t (debt_deadlines (account_debts gains strikes a))
-    (All-map (λ m. t ≤ m) (λ (d : Debt). d.deadline) must (All-filter (λ (d : Debt). d.must) (λ (d : Debt). t ≤ d.deadline) (account_debts gains strikes a) (debts-late gains strikes a t are late)))
+none_late gains strikes a t are late = timely-all t (account_debts gains strikes a) (debts-late gains strikes a t are late)
 
 -- lemmas for the prover under one name: what rows owe once some of them have gained a debt
-pub ruleset gained_by_rows = (changing-all, debts_length, gained-front, gained-grown, gained-more, gained-over, on-error)
-
--- the debts that a payment leaves
-abbrev pub left_by : ℕ → ℕ → List Debt → List Debt
-left_by message t owes = filter (counts_at t) (paid_by message t owes)
+pub ruleset gained_by_rows = (changing-all, length-map, changing-front, gained-grown, gained-more, gained-over, on-error)
 
 -- a row with no debt that the send pays is left out
 pub other-row : (message t : ℕ) (owes : List Debt) → list_any (is_payable message t) owes ≡ false → [] ≡ paid_rows message t (owes ∷ [])
-other-row message t owes none = ap (λ b. map (left_by message t) (cond b (owes ∷ []) [])) (sym (ap (λ b. b && is_timely t owes) none))
-
--- a row that is paid stands there with what is left to it
-pub paid-row : (message t : ℕ) (owes debts : List Debt) → list_any (is_payable message t) owes ≡ true → is_timely t owes ≡ true → debts ≡ left_by message t owes →
-    debts ∷ [] ≡ paid_rows message t (owes ∷ [])
-paid-row message t owes debts some timely same = grind (arith)
+other-row message t owes none = ap (λ b. map (λ owes. filter (counts_at t) (paid_by message t owes)) (cond b (owes ∷ []) [])) (sym (ap (λ b. b && is_timely t owes) none))
 
 -- the paid rows up to the next one are those up to this one, and this one if it is paid
 next-left : (message t from k : ℕ) (old : List (List Debt)) (owes : List Debt) (d : List (List Debt)) → d ≡ paid_rows message t (owes ∷ []) → owes ≡ owed_in old k → from ≤ k →
@@ -114,10 +95,6 @@ pub record ArePaidTo (gains : Gains) (message t from k : ℕ) (old : List (List 
 
 -- What follows is of the rows from `from` up to k, of which a send of a message at the moment t pays a debt one after the other.
 module _ {gains : Gains} {message t from k : ℕ} {old : List (List Debt)} {strikes : List Strike} {rows : List Account} where
-  -- a row of the old ones is one of the accounts
-  pub row-there : (row : ℕ) → ArePaidTo gains message t from k old strikes rows → row < length old → row < length rows
-  row-there row are within = row-inside row are.accounts are.debts (omega (arith, within, length-append old (paid_rows message t (from_to from k old))))
-
   -- a row of the old ones is one of the accounts, with the debts that it had
   pub account-there : (row : ℕ) (a : Account) → ArePaidTo gains message t from k old strikes rows → row < length old → a ≡ get_or rows row a →
       IsAccount gains strikes a × (account_debts gains strikes a ≡ owed_in old row)
@@ -135,31 +112,16 @@ module _ {gains : Gains} {message t from k : ℕ} {old : List (List Debt)} {stri
       map (account_debts gains strikes) (option_to_list left) ≡ paid_rows message t (owes ∷ []) → owes ≡ owed_in old k → from ≤ k → k < length old →
       ArePaidTo gains message t from (k + 1) old strikes (rows ++ option_to_list left)
   paid-next owes None are is debts same low within = grind (arith, append-nil, next-left message t from k old owes [])
-  paid-next owes (Some b) are is debts same low within =
-      let put = pushed-to b (account_debts gains strikes b) are.accounts are.debts is refl in
-      record {
-        accounts = put.0;
-        debts = grind (arith, put, append_assoc, next-left message t from k old owes (account_debts gains strikes b ∷ []));
-      }
-
-  -- the first rows are the old ones still
-  pub paid-front : (n : ℕ) → ArePaidTo gains message t from k old strikes rows → n ≡ length old → take n (accounts_debts gains strikes rows) ≡ old
-  paid-front n are is = grind (arith, take-append_seam)
+  paid-next owes (Some b) are is debts same low within = record {
+    accounts = record { gained = are.accounts.gained; each = All-push (IsAccount gains strikes) rows b are.accounts.each is };
+    debts = grind (arith, map-append, append_assoc, next-left message t from k old owes (account_debts gains strikes b ∷ []));
+  }
 
 -- lemmas for the prover under one name: what a send pays of one row
-pub ruleset paid_of_row = (paid-account, unpaid-account, unpaid-is, other-row, paid-row, can-pay)
+pub ruleset paid_of_row = (paid-account, unpaid-account, unpaid-is, other-row, can-pay)
 
 -- lemmas for the prover under one name: what a send pays of many rows
-pub ruleset paid_of_rows = (from_to-end, debts_length, account-there, paid-front, paid-grown, paid-next, row-there, on-error)
-
--- IsExpiredTo holds at the start of an account: nothing is owed before it
-pub expired-start : (t : ℕ) (gains : Gains) (strikes : List Strike) (m : ℕ → Bool) (a : Account) →
-    IsExpiredTo t (entries_of gains) m (owes_at gains strikes a) (owes_at gains strikes a) a.start
-expired-start t gains strikes m a = grind (arith, nat_tests, before-start)
-
--- IsExpiredTo goes on over a gain that must be sent
-pub stays-must : (t : ℕ) (entries : List Entry) (m o o' : ℕ → Bool) (place : ℕ) → IsExpiredTo t entries m o o' place → m place ≡ true → IsExpiredTo t entries m o o' (place + 1)
-stays-must t entries m o o' place was must = grind (arith)
+pub ruleset paid_of_rows = (from_to-end, length-map, account-there, length-append, paid-grown, paid-next, take-append_seam, on-error)
 
 -- where the gain at the place is past, may be sent, and is taken out, the account has expired one place further
 pub goes : (t : ℕ) (entries : List Entry) (m o o' o'' : ℕ → Bool) (place : ℕ) → IsExpiredTo t entries m o o' place → (entry_at entries place).deadline < t → m place ≡ false →
@@ -197,4 +159,4 @@ pub record IsExpiring (gains : Gains) (old new : List Strike) (a b : Account) (t
   pub gone : IsExpiredTo t (entries_of gains) (must_at gains a) (owes_at gains old a) (owes_at gains new b) place
 
 -- lemmas for the prover under one name: what is owed once what is past is dropped
-pub ruleset expired_by_place = (soft-must, goes, stays-must, take-length, empty-debts, entries_long, kept-start, expired-end, expired-rising, expired-start, none-goes)
+pub ruleset expired_by_place = (soft-must, goes, take-length, empty-debts, entries_long, kept-start, expired-end, expired-rising, before-start, none-goes)

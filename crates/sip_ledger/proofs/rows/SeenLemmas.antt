@@ -1,9 +1,9 @@
 -- Accounts as contracts see them: a list of what each row owes, and the messages that rows owe.
-use Rattle.sip_ledger.proofs.Words.{◌≡◌, ℕ, ◌+◌, ◌<◌, ◌≤◌, ◌==◌, true, false, List, [], ◌∷◌, ◌++◌, length, get_or, map, refl, sym, ap, ◌∙◌, arith, nat_tests, All, Contains, list_any, and-true, cases_eq, cases_lt, eqb-true, false_from_ne_true, le-leb, true≢false, append_assoc, get_or_append_left, get_or_default, get_or_push, length_push, All-get_or, All-map, Contains-append_left, Contains-push, Contains-push_cases, list_any_at, list_any_none, All-cons, All-nil, Debt, Account, Gains, Strike, AppendsOwed, owes_message, some_owes, is_payable, Rise, account_debts, accounts_debts, entries_of, entry_at, must_at, owes_at, holds, common_steps, ◌≢◌, take, set, IsTrue, Option, Some, None, IfSome, IfNone, Result, Ok, Err, IsErr, OnErr, ◌↔◌, is_err, is_some, eq-eqb, drop_min, All-weaker, sum_by-cons, debts_print, owed_in, softened_account, softened_debt, debt_deadlines, earliest, IsNextGain, AreAccounts, AreGains, IsAccount, IsFirstPayable, KeepsAccounts, pays_at, map-append, map-set, All-push, All-set, ◌^◌}
+use Rattle.sip_ledger.proofs.Words.{◌≡◌, ℕ, ◌+◌, ◌<◌, ◌≤◌, ◌==◌, true, false, List, [], ◌∷◌, ◌++◌, length, get_or, get_or-map, map, refl, sym, subst, ap, ◌∙◌, arith, nat_tests, All, Contains, list_any, and-true, cases_eq, cases_lt, eqb-true, false_from_ne_true, le-leb, true≢false, append_assoc, get_or_append_left, get_or_default, get_or_push, length_push, All-get_or, All-map, Contains-append_left, Contains-push, Contains-push_cases, list_any_at, list_any_none, All-cons, All-nil, Debt, Account, Gains, Strike, AppendsOwed, owes_message, some_owes, is_payable, Rise, account_debts, accounts_debts, entries_of, entry_at, must_at, owes_at, holds, common_steps, ◌≢◌, take, set, IsTrue, Option, Some, None, IfSome, IfNone, Result, Ok, Err, IsErr, OnErr, ◌↔◌, is_err, is_some, eq-eqb, drop_min, All-weaker, sum_by-cons, debts_print, owed_in, softened_account, softened_debt, debt_deadlines, earliest, IsNextGain, AreAccounts, AreGains, IsAccount, IsFirstPayable, KeepsAccounts, pays_at, map-append, map-set, length-map, take-map, drop-map, All-take, All-drop, All-push, All-set, ◌^◌}
 use Rattle.sip_ledger.proofs.debts.ListedLemmas.{listed-each, listed-few, listed-softened}
-use Rattle.sip_ledger.proofs.account.AccountLemmas.{kept-start, debts_length, row-debts, empty-debts, kept-all, must-below, owed-within, row-account, truncated, without-first_rows}
+use Rattle.sip_ledger.proofs.account.AccountLemmas.{kept-start, empty-account, empty-debts, kept-all, must-below, owed-within}
 use Rattle.sip_ledger.proofs.gains.LeftLemmas.{entries_long, held_left, owed-left}
-use Rattle.sip_ledger.proofs.debts.OwedLemmas.{listed-any, some-debt}
+use Rattle.sip_ledger.proofs.debts.OwedLemmas.{listed-any}
 use Rattle.sip_ledger.proofs.account.FindLemmas.{unpaid-account}
 use Rattle.sip_ledger.proofs.account.ToldLemmas.{told-start}
 
@@ -21,39 +21,16 @@ on-err (Err e) P is p = p
 module _ {gains : Gains} {strikes : List Strike} {rows : List Account} {seen : List (List Debt)} where
   -- a row of the list that contracts see is the row of one of the accounts
   pub row-inside : (row : ℕ) → AreAccounts gains strikes rows → accounts_debts gains strikes rows ≡ seen → row < length seen → row < length rows
-  row-inside row are view inside = omega (arith, inside, ap length view, debts_length gains strikes rows)
+  row-inside row are view inside = omega (arith, inside, ap length view, length-map rows (account_debts gains strikes))
 
   -- what stands in a row is an account, and its debts are those that contracts see there
   pub account-at : (row : ℕ) (a : Account) → AreAccounts gains strikes rows → accounts_debts gains strikes rows ≡ seen → row < length seen → a ≡ get_or rows row a →
       IsAccount gains strikes a × (account_debts gains strikes a ≡ owed_in seen row)
   account-at row a are view inside is =
-      let within = row-inside row are view inside in
-      let debts = row-debts gains strikes rows row a within is in
-      grind (arith, row-account, debts)
-
-  -- a row owes no more debts than were gained
-  pub row-few : (row : ℕ) → AreAccounts gains strikes rows → accounts_debts gains strikes rows ≡ seen → row < length seen → length (owed_in seen row) < 2 ^ 64
-  unfolding account_debts
-  row-few row are view inside =
-      -- `none` stands for no account
-      let none : Account = record { start = 0; end = 0; soft = 0; first = 0; last = 0; print = 0 } in
-      let at = account-at row (get_or rows row none) are view inside (get_or_default rows row none (get_or rows row none) (row-inside row are view inside)) in
-      grind (arith, at, listed-few, entries_long)
-
-  -- the account of a row, alone, is seen as what the row owes
-  pub alone : (row : ℕ) (a : Account) → AreAccounts gains strikes rows → accounts_debts gains strikes rows ≡ seen → row < length seen → a ≡ get_or rows row a →
-      AreAccounts gains strikes (a ∷ []) × (accounts_debts gains strikes (a ∷ []) ≡ owed_in seen row ∷ [])
-  unfolding accounts_debts
-  alone row a are view inside is =
-      let at = account-at row a are view inside is in
-      (record { gained = are.gained; each = All-cons (IsAccount gains strikes) a [] at.0 (All-nil (IsAccount gains strikes)) }, ap (λ debts. debts ∷ []) at.1)
-
-  -- where one of the accounts changes, contracts see its row changed
-  pub changed-to : (new : List Strike) (row : ℕ) (a : Account) (debts : List Debt) → take (length strikes) new ≡ strikes →
-      AreAccounts gains strikes rows → accounts_debts gains strikes rows ≡ seen → IsAccount gains new a → account_debts gains new a ≡ debts →
-      AreAccounts gains new (set rows row a) × (accounts_debts gains new (set rows row a) ≡ set seen row debts)
-  unfolding accounts_debts
-  changed-to new row a debts kept are view is owes = grind (arith, kept-all gains strikes new rows kept, All-set (IsAccount gains new) rows row a is, map-set)
+      let within = row-inside row are view inside in (
+        subst (IsAccount gains strikes) (sym is) (All-get_or (IsAccount gains strikes) rows row a within are.each),
+        ap (account_debts gains strikes) is ∙ sym (get_or-map (account_debts gains strikes) rows row a [] within) ∙ ap (λ owes. owed_in owes row) view,
+      )
 
   -- where an account of a row becomes one whose debts are its by f, contracts see the row changed by f
   pub changed-by : (f : List Debt → List Debt) (new : List Strike) (row : ℕ) (a b : Account) → take (length strikes) new ≡ strikes →
@@ -61,7 +38,8 @@ module _ {gains : Gains} {strikes : List Strike} {rows : List Account} {seen : L
       IsAccount gains new b → account_debts gains new b ≡ f (account_debts gains strikes a) →
       AreAccounts gains new (set rows row b) × (accounts_debts gains new (set rows row b) ≡ set seen row (f (owed_in seen row)))
   changed-by f new row a b kept are view inside is account debts =
-      changed-to new row b (f (owed_in seen row)) kept are view account (debts ∙ ap f (account-at row a are view inside is).1)
+      let at = account-at row a are view inside is in
+      grind (arith, kept-all gains strikes new rows kept, All-set (IsAccount gains new) rows row b account, at, map-set)
 
   -- where no account changes, and the strikes may have grown, contracts see the same rows
   pub unchanged : (new : List Strike) → take (length strikes) new ≡ strikes → AreAccounts gains strikes rows →
@@ -73,12 +51,10 @@ module _ {gains : Gains} {strikes : List Strike} {rows : List Account} {seen : L
       AreAccounts new strikes rows × (accounts_debts new strikes rows ≡ seen)
   over-to new keeps gained are view = let all = keeps.each strikes rows are.each in (record { gained = gained; each = all.0 }, all.1 ∙ view)
 
-  -- where an account is put after the others, contracts see one row more
-  pub pushed-to : (a : Account) (debts : List Debt) → AreAccounts gains strikes rows →
-      accounts_debts gains strikes rows ≡ seen → IsAccount gains strikes a → account_debts gains strikes a ≡ debts →
-      AreAccounts gains strikes (rows ++ a ∷ []) × (accounts_debts gains strikes (rows ++ a ∷ []) ≡ seen ++ debts ∷ [])
-  unfolding accounts_debts
-  pushed-to a debts are view is owes = grind (arith, nat_tests, common_steps, All-push, map-append)
+-- an account has no more debts than a number of the code can count
+pub account-few : (gains : Gains) (strikes : List Strike) (a : Account) → AreGains gains → length (account_debts gains strikes a) < 2 ^ 64
+unfolding account_debts
+account-few gains strikes a are = omega (arith, listed-few (owes_at gains strikes a) (must_at gains a) 0 (entries_of gains), entries_long gains are.long, are.small)
 
 -- the debts of a softened account are the softened ones
 soft-debts : (gains : Gains) (strikes : List Strike) (a : Account) (place : ℕ) → a.end ≤ place →
@@ -110,7 +86,9 @@ eased-account gains strikes a debt place gained is next none =
 -- an account that does not end where it starts owes something
 nothing-owed : (gains : Gains) (strikes : List Strike) (a : Account) → IsAccount gains strikes a → a.start ≢ a.end → account_debts gains strikes a ≢ []
 unfolding account_debts
-nothing-owed gains strikes a is other none = some-debt (entries_of gains) (owes_at gains strikes a) (must_at gains a) a.start (omega (arith, is.order, is.end, other)) (is.begins (omega (arith, is.order, other))) none
+nothing-owed gains strikes a is other none =
+    let some = listed-any (λ (debt : Debt). true) (entries_of gains) (owes_at gains strikes a) (must_at gains a) a.start (omega (arith, is.order, is.end, other)) (is.begins (omega (arith, is.order, other))) refl in
+    true≢false (sym some ∙ ap (list_any (λ (debt : Debt). true)) none)
 
 -- an account owes nothing exactly if it ends where it starts
 pub owes-nothing : (gains : Gains) (strikes : List Strike) (a : Account) (debts : List Debt) → IsAccount gains strikes a → account_debts gains strikes a ≡ debts →
@@ -126,11 +104,14 @@ unfolding account_debts
 can-pay gains strikes a message t (Some place) is some none = grind (arith, nat_tests, listed-any, owed-within)
 can-pay gains strikes a message t None is some none = grind (arith, nat_tests, list_any_none, All-weaker, false_from_ne_true, unpaid-account)
 
+-- lemmas for the prover under one name: what contracts see of rows of which one changes or comes
+pub ruleset of_changed_row = (account-at, map-set, map-append, All-set, All-push, length-map, empty-account, empty-debts)
+
 -- lemmas for the prover under one name: what contracts see of rows, by their accounts
-pub ruleset of_rows = (debts_length, account-at, alone, can-pay, truncated, on-err, on-error, over-to, unchanged, without-first_rows, drop_min)
+pub ruleset of_rows = (length-map, account-at, All-cons, All-nil, can-pay, on-err, on-error, over-to, unchanged, All-take, take-map, All-drop, drop-map, drop_min)
 
 -- lemmas for the prover under one name: what a row owes first
-pub ruleset first_of_rows = (account-at, debts_length, empty-debts, entries_long, kept-start, told-start)
+pub ruleset first_of_rows = (account-at, length-map, empty-debts, entries_long, kept-start, told-start)
 
 -- a send at moment 0 can pay each debt of its message
 pub payable-owes : (message : ℕ) (debts : List Debt) → list_any (is_payable message 0) debts ≡ owes_message message debts
@@ -141,12 +122,11 @@ payable-owes message (debt ∷ debts) = grind (arith, nat_tests, le-leb, and-tru
 pub named-here : (gains : Gains) (strikes : List Strike) (rows : List Account) (message at : ℕ) (none : Account) → at < length rows →
     owes_message message (account_debts gains strikes (get_or rows at none)) ≡ true → some_owes message (accounts_debts gains strikes rows) ≡ true
 named-here gains strikes rows message at none inside is =
-    grind (arith, debts_length, list_any_at (owes_message message) (accounts_debts gains strikes rows) at [], row-debts gains strikes rows at (get_or rows at none), get_or_default rows at none)
+    grind (arith, length-map, list_any_at (owes_message message) (accounts_debts gains strikes rows) at [], get_or-map (account_debts gains strikes) rows at none [])
 
 -- where none of the accounts owes the message, none of their lists of debts has it
 pub named-nowhere : (gains : Gains) (strikes : List Strike) (rows : List Account) (message : ℕ) → All (λ a. owes_message message (account_debts gains strikes a) ≡ false) rows →
     some_owes message (accounts_debts gains strikes rows) ≡ false
-unfolding accounts_debts
 named-nowhere gains strikes rows message none =
     list_any_none (owes_message message) (map (account_debts gains strikes) rows) (All-map (λ owes. owes_message message owes ≡ false) (account_debts gains strikes) rows none)
 
@@ -199,7 +179,7 @@ named-all rows low old new are none = grind (arith, nat_tests, cases_lt, true≢
 -- where what is left of messages lies between two numbers, the messages of all that rows owe do
 pub spanned : (gains : Gains) (strikes : List Strike) (rows : List Account) (low high : ℕ) → ((m k : ℕ) → holds gains.messages m k ≡ true → (low ≤ m) × (m ≤ high)) →
     All (All (λ (debt : Debt). (low ≤ debt.message) × (debt.message ≤ high))) (accounts_debts gains strikes rows)
-unfolding account_debts accounts_debts
+unfolding account_debts
 spanned gains strikes rows low high within =
     All-map (All (λ (debt : Debt). (low ≤ debt.message) × (debt.message ≤ high))) (account_debts gains strikes) rows (λ k d below.
     let a = get_or rows k d in

@@ -1,6 +1,6 @@
 -- Which gains the strikes of an account strike, once strikes are longer, written anew or looked for, and gains are let go: m is a message, and k a place.
 -- sm is the message of a strike, and mp that of the gain at a place.
-use Rattle.sip_ledger.proofs.Words.{◌≡◌, ◌≢◌, ℕ, zero, suc, ◌+◌, ◌-◌, ◌<◌, ◌≤◌, ◌==◌, ◌&&◌, ◌||◌, Bool, true, false, List, [], ◌∷◌, ◌++◌, length, take, drop, get_or, set, filter, refl, sym, ap, ap₂, ◌∙◌, subst, arith, nat_le, nat_lt, list_any, or-false, or_assoc, true≢false, nat_tests, list_any-append, list_any_at, take-append_seam, drop-append_seam, drop-append-le, drop-set-add, get_or_default, get_or-drop, length-drop, take-append-le, take-set-le, take_more, Account, Strike, Gains, IsWritten, Lengthens, Reaches, StrikeToo, entries_of, entry_at, is_left, is_struck, strikes_of, is_out, All, cases_eq, cases_lt, All-push, All-weaker, AreGains, AreKept, IsClearedTo, IsDropped, IsLetGo, StartFrom, owes_at, common_steps, map, max, false_from_ne_true, or_parts, append_assoc, map-append, All-get_or, All-nil, AreAppended, AreMoved, AreStruckToo, IsAccount, IsMoved, StrikesNoneFrom, account_debts, accounts_debts, holds}
+use Rattle.sip_ledger.proofs.Words.{◌≡◌, ℕ, zero, suc, ◌+◌, ◌-◌, ◌<◌, ◌≤◌, ◌==◌, ◌&&◌, ◌||◌, Bool, true, false, List, [], ◌∷◌, ◌++◌, length, take, drop, get_or, set, filter, refl, sym, ap, ap₂, ◌∙◌, arith, nat_le, nat_lt, list_any, or-false, or_assoc, true≢false, nat_tests, list_any-append, list_any_at, take-append_seam, drop-append_seam, drop-append-le, drop-set-add, get_or_default, get_or-drop, length-drop, take-append-le, take-set-le, take_more, Account, Strike, Gains, IsWritten, Reaches, StrikeToo, entries_of, entry_at, is_left, is_struck, strikes_of, is_out, All, cases_eq, cases_lt, All-push, All-weaker, AreGains, AreKept, IsClearedTo, IsDropped, IsLetGo, StartFrom, owes_at, common_steps, map, max, false_from_ne_true, or_parts, append_assoc, map-append, All-get_or, AreAppended, AreMoved, AreStruckToo, IsAccount, IsMoved, StrikesNoneFrom, account_debts, holds}
 use Rattle.sip_ledger.proofs.gains.LeftLemmas.{held_left}
 use Rattle.sip_ledger.proofs.account.AccountLemmas.{OwesAlike, dropped-alike, let_go-alike, over-all, past-end, kept-all, soft-must}
 use Rattle.sip_ledger.proofs.account.WithoutLemmas.{before-start}
@@ -32,15 +32,14 @@ pub struck-by_end : (m k sm from to : ℕ) → to ≤ k → (sm == m && (nat_le 
 struck-by_end m k sm from to past = grind (arith, nat_tests)
 
 -- where a strike is made longer up to a place, its message is struck from its old end up to there too
-lengthened : (place m k : ℕ) (old : List Strike) (at : ℕ) (s : Strike) → at < length old → (get_or old at s).to ≤ place →
-    is_struck (set old at (record { message = (get_or old at s).message; from = (get_or old at s).from; to = place + 1 })) m k
-    ≡ (is_struck old m k || is_out m k (record { message = (get_or old at s).message; from = max (get_or old at s).from (get_or old at s).to; to = place + 1 }))
+lengthened : (place m k : ℕ) (old : List Strike) (at : ℕ) (was : Strike) → at < length old → was ≡ get_or old at was → was.to ≤ place →
+    is_struck (set old at (record { message = was.message; from = was.from; to = place + 1 })) m k
+    ≡ (is_struck old m k || is_out m k (record { message = was.message; from = max was.from was.to; to = place + 1 }))
 unfolding is_struck
-lengthened place m k old at s within low =
-    let was = get_or old at s in
+lengthened place m k old at was within is low =
     let longer : Strike = record { message = was.message; from = was.from; to = place + 1 } in
     any-set (is_out m k) (is_out m k (record { message = was.message; from = max was.from was.to; to = place + 1 })) old at longer within
-    (grind (arith, nat_tests, get_or_default old at s longer within))
+    (grind (arith, nat_tests, get_or_default old at was longer within))
 
 -- from the end of a strike up to the place that it reaches, only the gain at that place is left of its message
 longer-there : (gains : Gains) (place k : ℕ) (s : Strike) → Reaches gains place s → is_left gains k ≡ true →
@@ -57,33 +56,30 @@ struck-push xs s m k = list_any-append (is_out m k) xs (s ∷ []) ∙ ap (λ b. 
 pub struck-next : (xs : List Strike) (at m k : ℕ) (d : Strike) → at < length xs → is_struck (take (at + 1) xs) m k ≡ (is_struck (take at xs) m k || is_out m k (get_or xs at d))
 struck-next xs at m k d within = ap (λ l. is_struck l m k) (take_more xs at d within) ∙ struck-push (take at xs) (get_or xs at d) m k
 
--- where one of the strikes from `first` on is made longer, they strike the gain at the place too
-pub longer-too : (gains : Gains) (place first : ℕ) (old new : List Strike) → Lengthens gains place first old new → StrikeToo gains place first old new
-longer-too gains place first old new l =
-    -- s stands for no strike, `own` are the strikes from `first` on, and i is the place of the longer one among them
-    let s : Strike = record { message = 0; from = 0; to = 0 } in
+-- where one of the strikes from `first` on reaches up to the place, and is made longer, they strike the gain at the place too
+pub longer_too : (gains : Gains) (place first at : ℕ) (old : List Strike) (was : Strike) → Reaches gains place was → was ≡ get_or old at was → first ≤ at → at < length old →
+    StrikeToo gains place first old (set old at (record { message = was.message; from = was.from; to = place + 1 }))
+longer_too gains place first at old was reaches is low within =
+    -- `own` are the strikes from `first` on, and i is the index of the longer one among them
     let own = drop first old in
-    let i = l.at - first in
-    let was = get_or own i s in
+    let i = at - first in
     let longer : Strike = record { message = was.message; from = was.from; to = place + 1 } in
-    -- from `first` on the strikes are those of before, but for the longer one
-    let here : l.at ≡ first + i = omega arith in
-    let same : get_or old l.at s ≡ was = ap (λ n. get_or old n s) here ∙ sym (get_or-drop first old i s) in
-    let low : i < length own = omega (arith, length-drop first old) in
-    let whole : new ≡ set old (first + i) longer = grind (arith, l.longer s) in
-    let rest : drop first new ≡ set own i longer = ap (drop first) whole ∙ drop-set-add first old i longer in
-    let reaches = subst (Reaches gains place) same (l.reaches s) in
+    let here : at ≡ first + i = omega (arith, low) in
+    let inside : i < length own = omega (arith, within, length-drop first old) in
+    let there : was ≡ get_or own i was = is ∙ ap (λ n. get_or old n was) here ∙ sym (get_or-drop first old i was) in
+    let whole : set old at longer ≡ set old (first + i) longer = ap (λ n. set old n longer) here in
+    let rest : drop first (set old at longer) ≡ set own i longer = ap (drop first) whole ∙ drop-set-add first old i longer in
     -- the strikes before `first` are as they were
     record {
       before = ap (take first) whole ∙ take-set-le first old (first + i) longer (omega arith);
-      struck = λ k left. rw rest (lengthened place (entry_at (entries_of gains) k).message k own i s low reaches.to ∙ ap (λ b. is_struck own (entry_at (entries_of gains) k).message k || b) (longer-there gains place k was reaches left));
-      bound = λ m k past none. rw rest (lengthened place m k own i s low reaches.to ∙ grind (arith, nat_tests, none, struck-by_end m k was.message (max was.from was.to) (place + 1)));
+      struck = λ k left. rw rest (lengthened place (entry_at (entries_of gains) k).message k own i was inside there reaches.to ∙ ap (λ b. is_struck own (entry_at (entries_of gains) k).message k || b) (longer-there gains place k was reaches left));
+      bound = λ m k past none. rw rest (lengthened place m k own i was inside there reaches.to ∙ grind (arith, nat_tests, none, struck-by_end m k was.message (max was.from was.to) (place + 1)));
     }
 
 -- where a new strike of the place is put after the others, the strikes strike the gain at the place too
-pub more-too : (gains : Gains) (place first : ℕ) (old new : List Strike) → first ≤ length old →
+pub more_too : (gains : Gains) (place first : ℕ) (old new : List Strike) → first ≤ length old →
     new ≡ old ++ (record { message = (entry_at (entries_of gains) place).message; from = place; to = place + 1 }) ∷ [] → StrikeToo gains place first old new
-more-too gains place first old new within is = grind (arith, nat_tests, drop-append-le, take-append-le, struck-push, struck-by_end)
+more_too gains place first old new within is = grind (arith, nat_tests, drop-append-le, take-append-le, struck-push, struck-by_end)
 
 -- IsWritten holds once the account's strikes are written
 pub written-none : (gains : Gains) (from : ℕ) (old new : List Strike) (a : Account) → new ≡ old ++ ending a.start (strikes_of old a) → IsWritten gains from from old new a
@@ -168,15 +164,9 @@ moved-account : (gains : Gains) (strikes old new : List Strike) (a b : Account) 
 unfolding owes_at
 moved-account gains strikes old new a b moved is = grind (arith, nat_tests, moved-debts, cases_lt, before-start)
 
--- AreMoved holds of no accounts
-pub moved-none : (gains : Gains) (strikes : List Strike) (rows : List Account) → AreMoved gains strikes (take 0 rows) [] []
-unfolding accounts_debts
-moved-none gains strikes rows = record { each = All-nil (IsAccount gains []); debts = refl }
-
 -- AreMoved goes on with one account more, once it is moved
 pub moved-more : (gains : Gains) (strikes old new : List Strike) (rows rows' : List Account) (at : ℕ) (d b : Account) → at < length rows → AreMoved gains strikes (take at rows) old rows' →
     IsMoved gains strikes old new (get_or rows at d) b → All (IsAccount gains strikes) rows → AreMoved gains strikes (take (at + 1) rows) new (rows' ++ b ∷ [])
-unfolding accounts_debts
 moved-more gains strikes old new rows rows' at d b within was moved each =
     let is = All-get_or (IsAccount gains strikes) rows at d within each in
     let kept = kept-all gains old new rows' moved.kept was.each in
@@ -189,9 +179,9 @@ moved-more gains strikes old new rows rows' at d b within was moved each =
     }
 
 -- all accounts are kept where a gain is let go that none of them owes
-pub kept-less : (first old new : Gains) (strikes : List Strike) (rows : List Account) (place : ℕ) → AreKept strikes rows first old → IsLetGo place old new → AreGains new →
+pub kept-less : {first old new : Gains} {strikes : List Strike} {rows : List Account} {place : ℕ} → AreKept strikes rows first old → IsLetGo place old new →
     All (λ a. owes_at old strikes a place ≡ false) rows → AreKept strikes rows first new
-kept-less first old new strikes rows place was gone are unowed =
+kept-less {first} {old} {new} {strikes} {rows} {place} was gone unowed =
     let alike = All-weaker (λ a. owes_at old strikes a place ≡ false) (OwesAlike old new strikes) (λ a none. let_go-alike old new strikes a place gone none) rows unowed in
     grind (arith, over-all old new strikes rows, alike)
 
@@ -200,15 +190,15 @@ pub none-before : (gains : Gains) (strikes : List Strike) (rows : List Account) 
 none-before gains strikes rows place k from early = grind (arith, nat_tests, All-weaker, cases_lt, before-start, past-end)
 
 -- where the gain at the next place is let go, and all accounts start after it, the gains are cleared one place further
-pub cleared-more : (first old new : Gains) (strikes : List Strike) (rows : List Account) (start place : ℕ) → IsClearedTo place strikes rows first old → IsLetGo place old new → AreGains new →
+pub cleared-more : {first old new : Gains} {strikes : List Strike} {rows : List Account} (start place : ℕ) → IsClearedTo place strikes rows first old → IsLetGo place old new →
     StartFrom start rows → place < start → IsClearedTo (place + 1) strikes rows first new
-cleared-more first old new strikes rows start place was gone are from early =
-    let kept = kept-less first old new strikes rows place was.kept gone are (none-before old strikes rows start place from early) in
+cleared-more {first} {old} {new} {strikes} {rows} start place was gone from early =
+    let kept = kept-less was.kept gone (none-before old strikes rows start place from early) in
     grind (arith, nat_tests, cases_eq, kept, gone, was)
 
 -- all accounts are kept where gains are dropped that are cleared
-pub cleared-dropped : (first old new : Gains) (strikes : List Strike) (rows : List Account) (place : ℕ) → IsClearedTo place strikes rows first old → IsDropped place old new → AreGains new →
+pub cleared-dropped : {first old new : Gains} {strikes : List Strike} {rows : List Account} {place : ℕ} → IsClearedTo place strikes rows first old → IsDropped place old new → AreGains new →
     AreKept strikes rows first new
-cleared-dropped first old new strikes rows place was dropped are =
+cleared-dropped {first} {old} {new} {strikes} {rows} {place} was dropped are =
     let all = over-all old new strikes rows (omega (arith, dropped.long)) (λ k d below. dropped-alike old new strikes (get_or rows k d) place dropped was.none) was.kept.accounts.each in
     record { accounts = record { gained = are; each = all.0 }; debts = all.1 ∙ was.kept.debts }

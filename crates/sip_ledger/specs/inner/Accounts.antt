@@ -1,4 +1,4 @@
-use Rattle.std.specs.Prelude.{◌≡◌, ◌≢◌, ◌==◌, ◌&&◌, ◌||◌, ◌<◌, ◌≤◌, ◌+◌, ◌-◌, ◌^◌, ℕ, Bool, true, false, not, cond, Option, Some, None, IfSome, IfNone, List, [], ◌∷◌, ◌++◌, All, drop, get_or, length, map, min, nat_le, nat_lt, replicate, set, take}
+use Rattle.std.specs.Prelude.{◌≡◌, ◌≢◌, ◌==◌, ◌&&◌, ◌||◌, ◌<◌, ◌≤◌, ◌+◌, ◌-◌, ◌^◌, ℕ, Bool, true, false, not, cond, Option, Some, None, List, [], ◌∷◌, ◌++◌, All, drop, get_or, length, map, min, nat_le, nat_lt, replicate, take}
 use Rattle.std.specs.List.{list_any}
 use Rattle.sip_ledger.specs.declared.debt.Debt.{Debt}
 use Rattle.sip_ledger.specs.declared.debt.Entry.{Entry}
@@ -6,12 +6,14 @@ use Rattle.sip_ledger.specs.declared.run.Run.{Run}
 use Rattle.sip_ledger.specs.declared.accounts.account.Account.{Account}
 use Rattle.sip_ledger.specs.declared.accounts.gains.Flags.{Flags}
 use Rattle.sip_ledger.specs.declared.accounts.gains.Gains.{Gains}
-use Rattle.sip_ledger.specs.declared.accounts.seek.Seek.{Seek}
+use Rattle.sip_ledger.specs.declared.accounts.gains.Seek.{Seek}
 use Rattle.sip_ledger.specs.declared.accounts.strikes.Strike.{Strike}
 use Rattle.sip_ledger.specs.Accounts.{debts_print}
 use Rattle.sip_ledger.specs.Lists.{from_to}
 use Rattle.sip_ledger.specs.Entries.{debts_from}
-use Rattle.sip_ledger.specs.Indexes.{holds}
+use Rattle.sip_ledger.specs.inner.Places.{IsNext, holds}
+use Rattle.sip_numbers.specs.Numbers.{numbers_of}
+use Rattle.sip_numbers.specs.declared.numbers.Word.{Word}
 
 -- Accounts over one list of gains. A place is the number of a gain; from its place on, an account owes what it gained, but for what is struck.
 
@@ -41,11 +43,6 @@ pub record IsUndropped (gains : Gains) (k : ℕ) : Type 0 where
   pub from : gains.end ≤ k + length gains.entries.items
   pub within : k < gains.end
 
--- the gain at the place is kept, and is of this message
-pub record IsPlaceOf (gains : Gains) (m k : ℕ) : Type 0 where
-  pub kept : IsUndropped gains k
-  pub message : (entry_at (entries_of gains) k).message ≡ m
-
 -- the deadlines of the entries never fall
 abbrev pub AreRising : List Entry → Type 0
 AreRising entries = (i k : ℕ) (e : Entry) → i ≤ k → k < length entries → (get_or entries i e).deadline ≤ (get_or entries k e).deadline
@@ -62,7 +59,7 @@ flags_at gains k = get_or gains.flags.items (k - (gains.end - length gains.entri
 pub record AreFlags (gains : Gains) : Type 0 where
   pub many : length gains.flags.items ≡ length gains.entries.items
   pub left : (k : ℕ) → IsUndropped gains k → (flags_at gains k).left ≡ is_left gains k
-  pub must : (k : ℕ) → IsUndropped gains k → (flags_at gains k).must ≡ holds gains.musts 0 k
+  pub must : (k : ℕ) → IsUndropped gains k → (flags_at gains k).must ≡ numbers_of gains.musts k
   pub newest : (j k : ℕ) → j ≤ k → IsUndropped gains j → IsUndropped gains k → (flags_at gains k).newest ≡ true → (entry_at (entries_of gains) j).message ≤ (entry_at (entries_of gains) k).message
 
 -- what holds of the gains at all times: no more are kept than there were, and a place is a number of the code; what stands under a message are gains
@@ -70,40 +67,40 @@ pub record AreFlags (gains : Gains) : Type 0 where
 pub record AreGains (gains : Gains) : Type 0 where
   pub long : length gains.entries.items ≤ gains.end
   pub small : gains.end < 2 ^ 64
-  pub messages : (m k : ℕ) → holds gains.messages m k ≡ true → IsPlaceOf gains m k
-  pub musts : (k : ℕ) → holds gains.musts 0 k ≡ true → k < gains.end
+  pub messages : (m k : ℕ) → holds gains.messages m k ≡ true → IsUndropped gains k × ((entry_at (entries_of gains) k).message ≡ m)
+  pub musts : (k : ℕ) → numbers_of gains.musts k ≡ true → k < gains.end
   pub rises : gains.rises ≡ true → AreRising gains.entries.items
   pub highest : (k : ℕ) → IsUndropped gains k → (entry_at (entries_of gains) k).message ≤ gains.highest
   pub flags : AreFlags gains
 
 -- the place stands under the debt's message, and among those of what must be sent if it must; no other place moves
-pub record IsNoted (place : ℕ) (debt : Debt) (named must_be named' must_be' : List (ℕ × ℕ)) : Type 0 where
+pub record IsNoted (place : ℕ) (debt : Debt) (named named' : List (ℕ × ℕ)) (must_be must_be' : List Word) : Type 0 where
   pub messages : (m k : ℕ) → holds named' m k ≡ cond (m == debt.message && k == place) true (holds named m k)
-  pub must : holds must_be' 0 place ≡ debt.must
-  pub musts : (k : ℕ) → k ≢ place → holds must_be' 0 k ≡ holds must_be 0 k
+  pub must : numbers_of must_be' place ≡ debt.must
+  pub musts : (k : ℕ) → k ≢ place → numbers_of must_be' k ≡ numbers_of must_be k
 
--- a gain of the debt is put after the others, and stands under its message
+-- a gain of the debt is put after the others, and its place is noted
 pub record IsGain (debt : Debt) (old new : Gains) : Type 0 where
+  pub gained : AreGains new
   pub entries : entries_of new ≡ entries_of old ++ (record { message = debt.message; deadline = debt.deadline }) ∷ []
-  pub message : holds new.messages debt.message (length (entries_of old)) ≡ true
-  pub messages : (m k : ℕ) → k ≢ length (entries_of old) → holds new.messages m k ≡ holds old.messages m k
-  pub must : holds new.musts 0 (length (entries_of old)) ≡ debt.must
-  pub musts : (k : ℕ) → k ≢ length (entries_of old) → holds new.musts 0 k ≡ holds old.musts 0 k
+  pub noted : IsNoted (length (entries_of old)) debt old.messages new.messages old.musts new.musts
 
 -- old and new gains are the same, and stand under the same messages
 pub record AreSameGains (old new : Gains) : Type 0 where
+  pub gained : AreGains new
   pub entries : entries_of new ≡ entries_of old
   pub messages : (m k : ℕ) → holds new.messages m k ≡ holds old.messages m k
-  pub musts : (k : ℕ) → holds new.musts 0 k ≡ holds old.musts 0 k
+  pub musts : (k : ℕ) → numbers_of new.musts k ≡ numbers_of old.musts k
 
 -- the gain at the place is not left any more
 pub record IsLetGo (place : ℕ) (old new : Gains) : Type 0 where
+  pub gained : AreGains new
   pub entries : entries_of new ≡ entries_of old
   pub end : new.end ≡ old.end
   pub long : length new.entries.items ≡ length old.entries.items
   pub here : (m : ℕ) → holds new.messages m place ≡ false
   pub others : (m k : ℕ) → k ≢ place → holds new.messages m k ≡ holds old.messages m k
-  pub musts : (k : ℕ) → k ≢ place → holds new.musts 0 k ≡ holds old.musts 0 k
+  pub musts : (k : ℕ) → k ≢ place → numbers_of new.musts k ≡ numbers_of old.musts k
 
 -- the gains before the place are dropped
 pub record IsDropped (place : ℕ) (old new : Gains) : Type 0 where
@@ -129,9 +126,9 @@ unfoldable pub owes_at : Gains → List Strike → Account → ℕ → Bool
 owes_at gains strikes account k =
     nat_le account.start k && (nat_lt k account.end && (is_left gains k && not (is_struck (strikes_of strikes account) (entry_at (entries_of gains) k).message k)))
 
--- whether the account must send what was gained at place k: the index `musts` has all its places under 0
+-- whether the account must send what was gained at place k
 unfoldable pub must_at : Gains → Account → ℕ → Bool
-must_at gains account k = holds gains.musts 0 k && nat_le account.soft k
+must_at gains account k = numbers_of gains.musts k && nat_le account.soft k
 
 -- the debts of an account
 unfoldable pub account_debts : Gains → List Strike → Account → List Debt
@@ -170,13 +167,8 @@ pub record AreAccounts (gains : Gains) (strikes : List Strike) (accounts : List 
   pub each : All (IsAccount gains strikes) accounts
 
 -- the debts of each account
-unfoldable pub accounts_debts : Gains → List Strike → List Account → List (List Debt)
+abbrev pub accounts_debts : Gains → List Strike → List Account → List (List Debt)
 accounts_debts gains strikes accounts = map (account_debts gains strikes) accounts
-
--- nothing of the message is left from a place on up to another one
-pub record IsNoneBetween (gains : Gains) (message from to : ℕ) : Type 0 where
-  pub order : from ≤ to
-  pub none : (k : ℕ) → from ≤ k → k < to → holds gains.messages message k ≡ false
 
 -- a strike of the gain's message that ends before its place, from where on nothing of that message is left
 pub record Reaches (gains : Gains) (place : ℕ) (strike : Strike) : Type 0 where
@@ -185,25 +177,9 @@ pub record Reaches (gains : Gains) (place : ℕ) (strike : Strike) : Type 0 wher
   pub to : strike.to ≤ place
   pub between : (k : ℕ) → strike.to ≤ k → k < place → holds gains.messages (entry_at (entries_of gains) place).message k ≡ false
 
--- one of the strikes from the first on reaches up to the place, and now ends after it
-pub record Lengthens (gains : Gains) (place first : ℕ) (old new : List Strike) : Type 0 where
-  pub at : ℕ
-  pub after : first ≤ at
-  pub within : at < length old
-  pub reaches : (s : Strike) → Reaches gains place (get_or old at s)
-  pub longer : (s : Strike) → new ≡ set old at (record { message = (get_or old at s).message; from = (get_or old at s).from; to = place + 1 })
-
--- the place is the first from one on at which the message is left, if there is one
-pub record IsNext (gains : Gains) (message from : ℕ) (place : Option ℕ) : Type 0 where
-  pub order : IfSome place (λ at. from ≤ at)
-  pub is : IfSome place (λ at. IsPlaceOf gains message at)
-  pub left : IfSome place (λ at. holds gains.messages message at ≡ true)
-  pub before : IfSome place (λ at. (k : ℕ) → from ≤ k → k < at → holds gains.messages message k ≡ false)
-  pub none : IfNone place ((k : ℕ) → from ≤ k → holds gains.messages message k ≡ false)
-
 -- what a seek knows is right: from its `low` on, the message is left first at its place, or nowhere
 abbrev pub IsSeek : Gains → ℕ → Seek → Type 0
-IsSeek gains message seek = IsNext gains message seek.low seek.place
+IsSeek gains message seek = IsNext gains.messages message seek.low seek.place
 
 -- whether a send of the message at t pays the gain at a place
 abbrev pub pays_at : List Entry → ℕ → ℕ → ℕ → Bool
@@ -263,7 +239,7 @@ pub record IsGainAt (gains : Gains) (debt : Debt) (place : ℕ) : Type 0 where
   pub left : holds gains.messages debt.message place ≡ true
   pub message : (entry_at (entries_of gains) place).message ≡ debt.message
   pub deadline : (entry_at (entries_of gains) place).deadline ≡ debt.deadline
-  pub must : holds gains.musts 0 place ≡ debt.must
+  pub must : numbers_of gains.musts place ≡ debt.must
 
 -- the account can gain the debt at this place, after all that it owes
 pub record IsNextGain (gains : Gains) (strikes : List Strike) (account : Account) (debt : Debt) (place : ℕ) : Type 0 where

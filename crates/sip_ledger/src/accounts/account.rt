@@ -1,9 +1,8 @@
 //! What one row owes of what was gained.
 ghost use Rattle.std.specs.Prelude.{◌≡◌, ◌≢◌, ◌↔◌, ◌<◌, ◌≤◌, ◌*◌, ◌%◌, ◌^◌, ◌++◌, ◌∷◌, ◌+◌};
-ghost use Rattle.sip_ledger.specs.inner.Words.{[], ℕ, Bool, true, false, Some, IfOk, IfSome, IfNone, IsTrue, OnOk, OnErr, bit_xor, filter, length, option_to_list, take, OnTrue, counts_at, debt_deadlines, earliest, is_timely, paid_by, worth_of, debt_of, Account, AreGains, IsAccount, IsAfter, IsExpiredTo, IsFirstPaying, IsFirstPayable, IsGainAt, IsUndropped, IsNextGain, IsPlaceOf, IsSeek, IsStruck, IsWithout, KeepsAccounts, SharesNext, account_debts, entries_of, entry_at, is_struck, must_at, owes_at, pays_at, softened_account, sooner, strikes_of, HasMany, holds, numbers_of};
+ghost use Rattle.sip_ledger.specs.inner.Words.{[], ℕ, Bool, true, false, Some, IfOk, IfSome, IfNone, IsTrue, OnOk, OnErr, bit_xor, filter, length, option_to_list, take, OnTrue, counts_at, debt_deadlines, earliest, is_timely, paid_by, worth_of, debt_of, Account, AreGains, IsAccount, IsAfter, IsExpiredTo, IsFirstPaying, IsFirstPayable, IsGainAt, IsUndropped, IsNextGain, IsSeek, IsWithout, KeepsAccounts, SharesNext, account_debts, entries_of, entry_at, is_struck, must_at, owes_at, pays_at, softened_account, sooner, strikes_of, HasMany, numbers_of};
 
-use crate::accounts::gains::Gains;
-use crate::accounts::seek::Seek;
+use crate::accounts::gains::{Gains, Seek};
 use crate::accounts::strikes::{Strike, Strikes, are_same, first_alone, put, struck_to};
 use crate::debt::Debt;
 use sip_numbers::Numbers;
@@ -381,47 +380,15 @@ fn shared_place(gains: &Gains, strikes: &[Strike], account: Account, debt: Debt)
 {
     let mut from = account.end.max(account.soft);
     while let Some(place) = gains.next(debt.message, from) {
-        if takes(gains, strikes, account, debt, place) {
+        if gains.entry(place).deadline == debt.deadline
+            && gains.flags(place).must == debt.must
+            && fits(strikes, account, debt.message, place)
+        {
             return Some(place);
         }
         from = place + 1;
     }
     None
-}
-
-/// Whether the account can gain the debt at the place, where its message was gained.
-#[tactic(auto, using(crate::proofs::gains::LeftLemmas::entries_long))]
-fn takes(gains: &Gains, strikes: &[Strike], account: Account, debt: Debt, place: usize) -> bool
-    requires gained { AreGains gains.now }
-    requires account { IsAccount gains.now strikes.now account }
-    requires place { IsPlaceOf gains.now debt.message place }
-    requires left { holds gains.now.messages debt.message place ≡ true }
-    ensures { OnTrue result (IsNextGain gains.now strikes.now account debt place) }
-{
-    if gains.entry(place).deadline != debt.deadline {
-        return false;
-    }
-    if gains.flags(place).must != debt.must {
-        return false;
-    }
-    fits(strikes, account, debt.message, place)
-}
-
-/// The account with what was gained at the places from its end up to this one struck.
-#[tactic(auto, using(crate::proofs::account::AccountLemmas::kept_by_place))]
-fn pass_to(gains: &Gains, strikes: &mut Strikes, account: Account, place: usize) -> Made
-    requires gained { AreGains gains.now }
-    requires account { IsAccount gains.now strikes.old.items account }
-    requires some { account.start < account.end }
-    requires end { account.end ≤ place }
-    requires within { place ≤ length (entries_of gains.now) }
-    ensures kept { take (length strikes.old.items) strikes.new.items ≡ strikes.old.items }
-    ensures passed { IfOk result (IsStruck gains.now account.end place strikes.old.items strikes.new.items account) }
-{
-    if account.end == place {
-        return Ok(account);
-    }
-    put(gains, strikes, account, account.end, place)
 }
 
 /// The account before it gains at the place: where it owes nothing that must be sent, and gains nothing such, what must be sent is looked for from the place on.
@@ -443,7 +410,8 @@ fn eased(gains: &Gains, strikes: &[Strike], account: Account, debt: Debt, place:
     }
 }
 
-/// The account with what was gained at the place, after all that it owes.
+/// The account with what was gained at the place, after all that it owes. What others gained between its end and the place is struck.
+#[tactic(auto, using(crate::proofs::account::AccountLemmas::kept_by_place))]
 pub(crate) fn gained(
     gains: &Gains,
     strikes: &mut Strikes,
@@ -473,7 +441,7 @@ pub(crate) fn gained(
         });
     }
     let eased = eased(gains, strikes, account, debt, place);
-    let passed = pass_to(gains, strikes, eased, place)?;
+    let passed = put(gains, strikes, eased, eased.end, place)?;
     Ok(Account {
         end: place + 1,
         print,

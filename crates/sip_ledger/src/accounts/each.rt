@@ -4,8 +4,7 @@ ghost use Rattle.sip_ledger.specs.inner.Words.{[], ℕ, IfOk, IfSome, OnOk, OnEr
 
 use crate::accounts::Accounts;
 use crate::accounts::account::{Account, expired, find, gained, is_timely, place_for, without};
-use crate::accounts::gains::Gains;
-use crate::accounts::seek::Seek;
+use crate::accounts::gains::{Gains, Seek};
 use crate::accounts::strikes::Strike;
 use crate::debt::Debt;
 use std::alloc::{AllocError, Global};

@@ -1,12 +1,10 @@
 //! What the rows gained: one list for all.
 ghost use Rattle.std.specs.Prelude.{◌≡◌, ◌<◌, ◌≤◌, ◌+◌, ◌==◌, ◌&&◌, ◌++◌, ◌∷◌};
-ghost use Rattle.sip_ledger.specs.inner.Words.{ℕ, [], IfSome, IfNone, MatchOption, OnOk, OnErr, cond, length, true, false, OnTrue, AreGains, AreRising, AreSameGains, IsDropped, IsGain, IsUndropped, IsLetGo, IsNext, IsNoted, IsPlaceOf, IsSeek, entries_of, entry_at, flags_at, holds, is_left, least_after};
+ghost use Rattle.sip_ledger.specs.inner.Words.{ℕ, [], IfSome, IfNone, MatchOption, OnOk, OnErr, cond, drop, length, true, false, OnTrue, AreGains, AreRising, AreSameGains, IsDropped, IsGain, IsUndropped, IsLetGo, IsNext, IsNoted, IsSeek, entries_of, entry_at, flags_at, holds, is_left, least_after, numbers_of};
 
 use crate::accounts::places::Places;
-use crate::accounts::seek::Seek;
 use crate::debt::{Debt, Entry};
-use crate::front;
-use crate::index::Index;
+use sip_numbers::Numbers;
 use std::alloc::{AllocError, Global};
 
 /// What is asked of a gain most often.
@@ -31,8 +29,8 @@ pub(crate) struct Gains {
     pub end: usize,
     /// The places of the gains that are left, under the messages.
     pub messages: Places,
-    /// The places of what must be sent, under 0.
-    pub musts: Index,
+    /// The places of what must be sent.
+    pub musts: Numbers,
     /// Whether no deadline is below the one before it, as far as gains are kept.
     pub rises: bool,
     /// No gain that is kept has a greater message.
@@ -41,7 +39,7 @@ pub(crate) struct Gains {
 
 impl Gains {
     /// Nothing was gained.
-    #[tactic(auto, using(crate::proofs::gains::LeftLemmas::none_entries))]
+    #[tactic(auto, using(crate::proofs::gains::LeftLemmas::none_gained_yet), unfolding(crate::specs::inner::Places::holds, crate::specs::inner::Accounts::entries_of))]
     pub(crate) fn new(alloc: Global) -> Self
         ensures gained { AreGains result }
         ensures none { entries_of result ≡ [] }
@@ -51,7 +49,7 @@ impl Gains {
             flags: Vec::new(alloc),
             end: 0,
             messages: Places::new(alloc),
-            musts: Index::new(alloc),
+            musts: Numbers::new(alloc),
             rises: true,
             highest: 0,
         }
@@ -66,7 +64,7 @@ impl Gains {
     }
 
     /// The gain at the place.
-    #[tactic(auto, using(crate::proofs::gains::LeftLemmas::entry_index))]
+    #[tactic(auto, using(crate::proofs::gains::LeftLemmas::entry_by_place))]
     pub(crate) fn entry(&self, place: usize) -> Entry
         requires gained { AreGains self.now }
         requires kept { IsUndropped self.now place }
@@ -90,16 +88,10 @@ impl Gains {
         requires { AreGains self.now }
         ensures { result ≡ holds self.now.messages message place }
     {
-        if place < self.first() {
+        if place < self.first() || self.end <= place {
             return false;
         }
-        if self.end <= place {
-            return false;
-        }
-        if self.entry(place).message != message {
-            return false;
-        }
-        self.flags(place).left
+        self.entry(place).message == message && self.flags(place).left
     }
 
     /// Whether it is known that no deadline of what is kept is below the moment.
@@ -121,7 +113,6 @@ impl Gains {
     /// Puts a gain after the others. On an error they are as before.
     pub(crate) fn push(&mut self, debt: Debt) -> Result<(), AllocError>
         requires { AreGains self.old }
-        ensures gained { AreGains self.new }
         ensures ok { OnOk result (IsGain debt self.old self.new) }
         ensures err { OnErr result (AreSameGains self.old self.new) }
     {
@@ -153,14 +144,13 @@ impl Gains {
 
     /// The first place of the message from this one on that is left.
     pub(crate) fn next(&self, message: u64, from: usize) -> Option<usize>
-        requires { AreGains self.now }
-        ensures { IsNext self.now message from result }
+        ensures { IsNext self.now.messages message from result }
     {
-        let at = self.messages.next(message, from as u64)?;
-        Some(at as usize)
+        Some(self.messages.next(message, from as u64)? as usize)
     }
 
     /// A place from this one on before which no gain from this one on is left: that of the next gain that is left, mostly.
+    #[tactic(auto, unfolding(crate::specs::inner::Accounts::is_left))]
     pub(crate) fn next_left(&self, from: usize) -> usize
         requires { AreGains self.now }
         ensures low { from ≤ result }
@@ -209,13 +199,13 @@ impl Gains {
         }
     }
 
-    /// The first place from this one on of what must be sent. The place itself is looked at before the index is asked.
+    /// The first place from this one on of what must be sent. The place itself is looked at before the set is asked.
     pub(crate) fn next_must(&self, from: usize) -> Option<usize>
         requires { AreGains self.now }
         ensures within { IfSome result (λ at. (from ≤ at) × (at < self.now.end)) }
-        ensures is { IfSome result (λ at. holds self.now.musts 0 at ≡ true) }
-        ensures before { IfSome result (λ at. (k : ℕ) → from ≤ k → k < at → holds self.now.musts 0 k ≡ false) }
-        ensures none { IfNone result ((k : ℕ) → from ≤ k → holds self.now.musts 0 k ≡ false) }
+        ensures is { IfSome result (λ at. numbers_of self.now.musts at ≡ true) }
+        ensures before { IfSome result (λ at. (k : ℕ) → from ≤ k → k < at → numbers_of self.now.musts k ≡ false) }
+        ensures none { IfNone result ((k : ℕ) → from ≤ k → numbers_of self.now.musts k ≡ false) }
     {
         if self.end <= from {
             return None;
@@ -223,20 +213,18 @@ impl Gains {
         if self.first() <= from && self.flags(from).must {
             return Some(from);
         }
-        let at = self.musts.next(0, from as u64)?;
-        Some(at as usize)
+        Some(self.musts.next_in_both(&self.musts, from as u64)? as usize)
     }
 
     /// Lets the gain at the place go: it is not left any more.
     pub(crate) fn let_go(&mut self, place: usize)
         requires gained { AreGains self.old }
         requires kept { IsUndropped self.old place }
-        ensures gained { AreGains self.new }
-        ensures gone { IsLetGo place self.old self.new }
+        ensures { IsLetGo place self.old self.new }
     {
         let message = self.entry(place).message;
         self.messages.take(message, place as u64);
-        let _must = self.musts.take(0, place as u64);
+        self.musts.take(place as u64);
         // The gain stays in the list, so that the places stay; its flags say that it is not left.
         let at = place - (self.end - self.entries.len());
         self.flags[at] = Flags {
@@ -256,35 +244,82 @@ impl Gains {
         ensures dropped { IsDropped place self.old self.new }
     {
         let count = place - (self.end - self.entries.len());
-        front::drop_first(&mut self.entries, count);
-        front::drop_first(&mut self.flags, count);
+        drop_first(&mut self.entries, count);
+        drop_first(&mut self.flags, count);
+    }
+}
+
+/// What the index said last of a message: from `low` on it is left at `place` first, or nowhere.
+#[derive(Clone, Copy, Debug)]
+pub(crate) struct Seek {
+    pub low: usize,
+    pub place: Option<usize>,
+}
+
+impl Seek {
+    /// From this place on.
+    pub(crate) fn new(gains: &Gains, message: u64, low: usize) -> Self
+        ensures { IsSeek gains.now message result }
+    {
+        Seek {
+            low,
+            place: gains.next(message, low),
+        }
+    }
+
+    /// The first place from this one on at which the message is left. The index is asked where neither what it said last nor the place itself tells.
+    pub(crate) fn next(&mut self, gains: &Gains, message: u64, from: usize) -> Option<usize>
+        requires gained { AreGains gains.now }
+        requires seek { IsSeek gains.now message self.old }
+        ensures seek { IsSeek gains.now message self.new }
+        ensures next { IsNext gains.now.messages message from result }
+    {
+        if self.low <= from {
+            match self.place {
+                Some(at) if at < from => {}
+                place => return place,
+            }
+        }
+        if gains.has(message, from) {
+            return Some(from);
+        }
+        self.low = from;
+        self.place = gains.next(message, from);
+        self.place
     }
 }
 
 /// Puts the place of a gain under its message, and among those of what must be sent if it must. On an error it stands nowhere.
-fn note(messages: &mut Places, musts: &mut Index, place: u64, debt: Debt) -> Result<(), AllocError>
-    requires message { (m : ℕ) → holds messages.old m place ≡ false }
-    requires must { holds musts.old 0 place ≡ false }
-    ensures ok { OnOk result (IsNoted place debt messages.old musts.old messages.new musts.new) }
+fn note(messages: &mut Places, musts: &mut Numbers, at: u64, debt: Debt) -> Result<(), AllocError>
+    requires message { (m : ℕ) → holds messages.old m at ≡ false }
+    requires must { numbers_of musts.old at ≡ false }
+    ensures ok { OnOk result (IsNoted at debt messages.old messages.new musts.old musts.new) }
     ensures err { OnErr result (((m k : ℕ) → holds messages.new m k ≡ holds messages.old m k) × (musts.new ≡ musts.old)) }
 {
-    let key = debt.message;
-    messages.put(key, place)?;
-    if !debt.must {
-        return Ok(());
-    }
-    if let Err(refused) = musts.put(0, place) {
-        messages.take(key, place);
-        return Err(refused);
+    messages.put(debt.message, at)?;
+    if debt.must && musts.put(at).is_err() {
+        messages.take(debt.message, at);
+        return Err(AllocError);
     }
     Ok(())
 }
 
 /// Whether deadlines never fall, with one gain more.
+#[tactic(auto, using(crate::proofs::gains::LeftLemmas::rising_by_one))]
 fn rise(entries: &[Entry], rises: bool, entry: Entry) -> bool
     requires { rises ≡ true → AreRising entries.now }
     ensures { result ≡ true → AreRising (entries.now ++ entry ∷ []) }
 {
     let count = entries.len();
     count == 0 || (rises && entries[count - 1].deadline <= entry.deadline)
+}
+
+/// Drops the first `count` items.
+pub(crate) fn drop_first<T: Copy + Drop>(items: &mut Vec<T>, count: usize)
+    requires { count ≤ length items.old.items }
+    ensures { items.new.items ≡ drop count items.old.items }
+{
+    let kept = items.len() - count;
+    items.copy_within(count.., 0);
+    items.truncate(kept);
 }

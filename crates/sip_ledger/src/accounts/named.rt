@@ -3,8 +3,7 @@ ghost use Rattle.std.specs.Prelude.{◌≡◌};
 ghost use Rattle.sip_ledger.specs.inner.Words.{OnOk, OnErr, length, take, AppendsOwed, some_owes, AreAccounts, IsSeek, accounts_debts};
 
 use crate::accounts::account::{Account, find};
-use crate::accounts::gains::Gains;
-use crate::accounts::seek::Seek;
+use crate::accounts::gains::{Gains, Seek};
 use crate::accounts::strikes::Strike;
 use std::alloc::AllocError;
 

@@ -1,19 +1,18 @@
 //! The places of what is left of each message.
 ghost use Rattle.std.specs.Prelude.{◌≡◌, ◌==◌, ◌&&◌, ◌<◌, ◌≤◌, ℕ, cond, true, false, [], IfSome, IfNone, OnOk, OnErr};
-ghost use Rattle.sip_ledger.specs.Indexes.{holds, IsFirstFrom, IsNextUnder, NoneFrom};
 ghost use Rattle.sip_numbers.specs.Numbers.{numbers_of};
-ghost use Rattle.sip_ledger.specs.inner.Places.{IsNextLeft, NoneLeft};
+ghost use Rattle.sip_ledger.specs.inner.Places.{IsFrom, IsNext, IsNextLeft, holds};
 
-use crate::index::Index;
 use sip_numbers::Numbers;
 use std::alloc::{AllocError, Global};
+use std::collections::BTreeSet;
 use std::marker::Model;
 
 /// The places at which gains are left, each under its message; and the set of these messages, and that of these places. Contracts see the pairs of a
 /// message and a place, in order.
 #[derive(Debug, Drop)]
 pub(crate) struct Places {
-    pairs: Index,
+    pairs: BTreeSet<(u64, u64)>,
     messages: Numbers,
     places: Numbers,
 }
@@ -24,19 +23,20 @@ impl Model for Places {
 
     ghost Value = { List (ℕ × ℕ) };
 
-    ghost view = { λ p. p.pairs };
+    ghost view = { λ p. p.pairs.keys };
 
     // Each message and each place of a pair is in its set, and a place stands under one message.
-    ghost invariant = { λ p. ArePlaces p.pairs p.messages p.places };
+    ghost invariant = { λ p. ArePlaces p.pairs.keys p.messages p.places };
 }
 
 impl Places {
     /// No places.
+    #[tactic(auto, using(crate::proofs::gains::LeftLemmas::none_held))]
     pub(crate) fn new(alloc: Global) -> Self
         ensures { result ≡ [] }
     {
         Places {
-            pairs: Index::new(alloc),
+            pairs: BTreeSet::new(alloc),
             messages: Numbers::new(alloc),
             places: Numbers::new(alloc),
         }
@@ -50,42 +50,51 @@ impl Places {
     {
         self.messages.put(message)?;
         self.places.put(place)?;
-        self.pairs.put(message, place)
+        let _added = self.pairs.insert((message, place))?;
+        Ok(())
     }
 
     /// Takes the place from the message, if it stands there.
     pub(crate) fn take(&mut self, message: u64, place: u64)
         ensures { (m k : ℕ) → holds self.new m k ≡ cond (m == message && k == place) false (holds self.old m k) }
     {
-        if !self.pairs.take(message, place) {
+        if !remove(&mut self.pairs, message, place) {
             return;
         }
         self.places.take(place);
-        if self.pairs.next(message, 0).is_none() {
+        if self.next(message, 0).is_none() {
             self.messages.take(message);
         }
     }
 
     /// The first pair from this message and place on, in the order of messages and then of places.
+    #[tactic(auto, unfolding(crate::specs::inner::Places::holds))]
     pub(crate) fn first_from(&self, message: u64, place: u64) -> Option<(u64, u64)>
-        ensures found { IfSome result (IsFirstFrom self.now message place) }
-        ensures none { IfNone result (NoneFrom self.now message place) }
+        ensures is { IfSome result (λ found. holds self.now found.0 found.1 ≡ true) }
+        ensures after { IfSome result (λ found. IsFrom message place found.0 found.1) }
+        ensures first { IfSome result (λ found. (m k : ℕ) → holds self.now m k ≡ true → IsFrom message place m k → IsFrom found.0 found.1 m k) }
+        ensures none { IfNone result ((m k : ℕ) → IsFrom message place m k → holds self.now m k ≡ false) }
     {
-        self.pairs.first_from(message, place)
+        match self.pairs.range((message, place)..).next() {
+            Some(pair) => Some(*pair),
+            None => None,
+        }
     }
 
     /// The first place of the message, from this one on.
     pub(crate) fn next(&self, message: u64, from: u64) -> Option<u64>
-        ensures found { IfSome result (IsNextUnder self.now message from) }
-        ensures none { IfNone result ((k : ℕ) → from ≤ k → holds self.now message k ≡ false) }
+        ensures { IsNext self.now message from result }
     {
-        self.pairs.next(message, from)
+        match self.first_from(message, from) {
+            Some((found, place)) if found == message => Some(place),
+            _ => None,
+        }
     }
 
     /// The first of these messages from this one on of which a place is here. It may tell one of which none is any more, but passes over none of which one is.
     pub(crate) fn next_among(&self, messages: &Numbers, from: u64) -> Option<u64>
         ensures found { IfSome result (IsNextLeft self.now (numbers_of messages.now) from) }
-        ensures none { IfNone result (NoneLeft self.now (numbers_of messages.now) from) }
+        ensures none { IfNone result ((m k : ℕ) → from ≤ m → numbers_of messages.now m ≡ true → holds self.now m k ≡ false) }
     {
         messages.next_in_both(&self.messages, from)
     }
@@ -101,9 +110,22 @@ impl Places {
     }
 
     /// Two messages: the least and the greatest under which places stand, or 0 and 0 where there are no places.
+    #[tactic(auto, using(crate::proofs::gains::LeftLemmas::none_held))]
     pub(crate) fn span(&self) -> (u64, u64)
         ensures { (m k : ℕ) → holds self.now m k ≡ true → (result.0 ≤ m) × (m ≤ result.1) }
     {
-        self.pairs.span()
+        match (self.pairs.first(), self.pairs.last()) {
+            (Some(first), Some(last)) => (first.0, last.0),
+            _ => (0, 0),
+        }
     }
+}
+
+/// Takes the pair of the message and the place out, if it is there, and tells whether it was.
+#[tactic(auto, unfolding(crate::specs::inner::Places::holds))]
+fn remove(pairs: &mut BTreeSet<(u64, u64)>, message: u64, place: u64) -> bool
+    ensures stood { result ≡ holds pairs.old.keys message place }
+    ensures taken { (m k : ℕ) → holds pairs.new.keys m k ≡ cond (m == message && k == place) false (holds pairs.old.keys m k) }
+{
+    pairs.remove(&(message, place))
 }

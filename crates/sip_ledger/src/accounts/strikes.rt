@@ -1,6 +1,6 @@
 //! What is not owed of what was gained.
 ghost use Rattle.std.specs.Prelude.{◌≡◌, ◌<◌, ◌≤◌, ◌+◌, ◌++◌};
-ghost use Rattle.sip_ledger.specs.inner.Words.{ℕ, true, false, IfOk, IfSome, IfNone, OnOk, OnErr, filter, length, take, nat_lt, OnTrue, OnFalse, from_to, AreGains, AreStruckToo, IsUndropped, IsNoneBetween, IsStruck, IsWritten, Lengthens, Reaches, StrikeToo, is_out, is_struck};
+ghost use Rattle.sip_ledger.specs.inner.Words.{ℕ, true, false, IfOk, IfSome, IfNone, OnOk, OnErr, filter, length, take, nat_lt, OnTrue, from_to, AreGains, AreStruckToo, IsUndropped, IsStruck, Reaches, StrikeToo, is_out, is_struck};
 
 use crate::accounts::account::{Account, Made};
 use crate::accounts::gains::Gains;
@@ -120,68 +120,28 @@ fn copy_some(strikes: &mut Strikes, first: usize, last: usize, start: usize) -> 
     Ok(())
 }
 
-/// Makes one of the strikes from the first on longer so that it strikes what was gained at the place too, and nothing else that is left, if
-/// there is one of its message that reaches up to it.
-fn lengthen(gains: &Gains, strikes: &mut [Strike], first: usize, place: usize) -> bool
-    requires gained { AreGains gains.now }
-    requires kept { IsUndropped gains.now place }
-    ensures found { OnTrue result (Lengthens gains.now place first strikes.old strikes.new) }
-    ensures none { OnFalse result (strikes.new ≡ strikes.old) }
-{
-    for at in first..strikes.len() {
-        if reaches(gains, strikes[at], place) {
-            strikes[at].to = place + 1;
-            return true;
-        }
-    }
-    false
-}
-
 /// Whether the strike is of the message that was gained at the place, and ends where nothing else of it is left before the place.
 fn reaches(gains: &Gains, strike: Strike, place: usize) -> bool
     requires gained { AreGains gains.now }
     requires kept { IsUndropped gains.now place }
     ensures { OnTrue result (Reaches gains.now place strike) }
 {
-    if strike.message != gains.entry(place).message || place < strike.from {
-        return false;
-    }
-    none_between(gains, strike.message, strike.to, place)
-}
-
-/// Whether nothing of the message is left from a place on up to another one.
-fn none_between(gains: &Gains, message: u64, from: usize, to: usize) -> bool
-    requires gained { AreGains gains.now }
-    requires to { to ≤ gains.now.end }
-    ensures { OnTrue result (IsNoneBetween gains.now message from to) }
-{
-    if to < from {
+    if strike.message != gains.entry(place).message || place < strike.from || place < strike.to {
         return false;
     }
     // Few gains that are all kept are looked at one by one; otherwise the index tells the next one of the message that is left.
-    if to - from <= FEW && gains.first() <= from {
-        return are_others(gains, message, from, to);
+    if place - strike.to <= FEW && gains.first() <= strike.to {
+        for at in strike.to..place {
+            if gains.entry(at).message == strike.message {
+                return false;
+            }
+        }
+        return true;
     }
-    match gains.next(message, from) {
-        Some(at) => to <= at,
+    match gains.next(strike.message, strike.to) {
+        Some(at) => place <= at,
         None => true,
     }
-}
-
-/// Whether none of the gains from a place on up to another one is of the message.
-fn are_others(gains: &Gains, message: u64, from: usize, to: usize) -> bool
-    requires gained { AreGains gains.now }
-    requires from { gains.now.end ≤ from + length gains.now.entries.items }
-    requires order { from ≤ to }
-    requires to { to ≤ gains.now.end }
-    ensures { OnTrue result (IsNoneBetween gains.now message from to) }
-{
-    for at in from..to {
-        if gains.entry(at).message == message {
-            return false;
-        }
-    }
-    true
 }
 
 /// The account with what was gained from one place up to another struck too: its strikes that end after its start are written after all others,
@@ -201,6 +161,9 @@ pub(crate) fn put(
     ensures kept { take (length strikes.old.items) strikes.new.items ≡ strikes.old.items }
     ensures struck { IfOk result (IsStruck gains.now from to strikes.old.items strikes.new.items account) }
 {
+    if from == to {
+        return Ok(account);
+    }
     let first = strikes.len();
     copy_some(strikes, account.first, account.last, account.start)?;
     for place in from..to {
@@ -222,12 +185,16 @@ fn strike_too(gains: &Gains, strikes: &mut Strikes, first: usize, place: usize) 
     ensures ok { OnOk result (StrikeToo gains.now place first strikes.old.items strikes.new.items) }
     ensures err { OnErr result (strikes.new.items ≡ strikes.old.items) }
 {
-    if !lengthen(gains, strikes, first, place) {
-        strikes.push(Strike {
-            message: gains.entry(place).message,
-            from: place,
-            to: place + 1,
-        })?;
+    for at in first..strikes.len() {
+        if reaches(gains, strikes[at], place) {
+            strikes[at].to = place + 1;
+            return Ok(());
+        }
     }
+    strikes.push(Strike {
+        message: gains.entry(place).message,
+        from: place,
+        to: place + 1,
+    })?;
     Ok(())
 }

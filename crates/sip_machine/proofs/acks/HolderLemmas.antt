@@ -1,64 +1,95 @@
--- Which debt is the first one whose message has a given To, where messages stand under the hashes of their Tos.
+-- Which debt is the first one whose message has a given To. It is looked for among the oldest debts, one by one, and among the messages of a set.
 -- `IsFirstPaid P t debts m` says that m is the message of the first debt of which P holds, and that a send of it at t pays that debt; or that there is no m,
 -- and P holds of none.
-use Rattle.sip_machine.proofs.Words.{◌≡◌, ◌<◌, ◌∷◌, ◌↔◌, ℕ, Bool, true, false, true≢false, ◌∙◌, ap, full_hash, Option, None, Some, List, [], All, get_or, length, sym, subst, All-get_or, All-head, Debt, IsFirstPaid, PaysSome, paid_by, owed_in, owes_names, Texts, Keeps, text_of, HasTo, All-back, All-front, IsWithoutFirst-alike, All-names, FindsFirst, AreBetween, IsToOf, StandUnder}
-use Rattle.sip_machine.specs.inner.Hashes.{Sets, stands}
+use Prim.Native.Nat.{suc, zero}
+use Rattle.std.proofs.lemmas.Bool.{false_from_ne_true}
+use Rattle.sip_machine.proofs.Words.{◌≡◌, ◌<◌, ◌≤◌, ◌∷◌, ◌↔◌, ◌∙◌, ℕ, true, cond, ap, arith, nat_tests, numbers_of, refl, sym, IfSome, Option, None, Some, List, [], take, All, get_or, length, subst, All-cons, All-get_or, All-head, All-nil, All-tail, Debt, IsFirstPaid, PaysSome, is_payable, paid_by, owed_in, owes_names, Texts, Keeps, text_of, HasAll, HasTo, All-back, All-front, IsWithoutFirst-alike, All-names, FindsFirst, AreBetween, IsToOf}
+use Rattle.sip_numbers.specs.declared.numbers.Word.{Word}
 
 -- where P and Q hold of the same debts, the first debt of which P holds is the first of which Q holds
 pub FindsFirst-same : (P Q : Debt → Type 0) (t : ℕ) (debts : List Debt) (message : Option ℕ) → All (λ d. P d ↔ Q d) debts → FindsFirst P t debts message → FindsFirst Q t debts message
 FindsFirst-same P Q t debts None same none = λ k d low holds. none k d low ((same k d low).1 holds)
 FindsFirst-same P Q t debts (Some message) same first = IsWithoutFirst-alike P Q debts (paid_by message t debts) same first
 
--- What follows is of a row at the moment t, of the hash of a To, and of a test that tells which numbers stand under it. The kept messages with numbers from
--- `low` up to `high` stand under the hashes of their Tos.
-module _ (texts : Texts) (to : List ℕ) (low high t : ℕ) (rows : List (List Debt)) (row : ℕ) (inside : row < length rows)
-    (spans : All (AreBetween low high) rows) (kept : All (Keeps texts) (owes_names (owed_in rows row)))
-    (sets : Sets) (stand : StandUnder texts low high sets) (hash : ℕ) (of_to : hash ≡ full_hash to) (test : ℕ → Bool) (tells : (n : ℕ) → test n ≡ stands sets hash n) where
-  -- what the row owes
-  abbrev debts : List Debt
-  debts = owed_in rows row
+-- what is so of the message of each debt of which P holds is so of the message that is found
+pub found-is : (P : Debt → Type 0) (Q : ℕ → Type 0) (t : ℕ) (debts : List Debt) (found : Option ℕ) →
+    All (λ d. P d → Q d.message) debts → IsFirstPaid P t debts found → IfSome found Q
+found-is P Q t debts None all none = tt
+found-is P Q t debts (Some message) all (one, same) =
+    let W : Debt → Type 0 = λ d. P d → Q d.message in
+    subst Q same (All-head W one.first one.after (All-back W one.before (one.first ∷ one.after) (subst (All W) one.whole all)) one.holds)
 
-  -- the message of the debt passes the test, and its deadline is not before t
-  abbrev Passes : Debt → Type 0
-  Passes = PaysSome test t
+-- What follows is of a To and of the moment t of a send.
+module _ (texts : Texts) (to : List ℕ) (t : ℕ) where
+  -- the message of the debt has the To, and its deadline is not before t
+  abbrev Has : Debt → Type 0
+  Has = HasTo texts to t
 
-  -- the book has each message that the row owes
-  known : All (λ d. Keeps texts d.message) debts
-  known = All-names (Keeps texts) debts kept
-
-  -- where the message of a debt has the To, it passes the test
-  passes : All (λ d. HasTo texts to t d → Passes d) debts
-  passes = λ k d within has.
-      -- the numbers of what the row owes are from low up to high, and the messages with such numbers stand under the hashes of their Tos
-      let between = All-get_or (AreBetween low high) rows row [] inside spans k d within in
-      let message = (get_or debts k d).message in
-      (tells message ∙ ap (λ h. stands sets h message) of_to ∙ stand message to (known k d within) between.0 between.1 has.0, has.1)
-
-  -- where none that is owed passes the test, none has the To
-  pub none-passes : IsFirstPaid Passes t debts None → FindsFirst (HasTo texts to t) t debts None
-  none-passes none = λ k d within has. none k d within (passes k d within has)
-
-  -- where nothing stands under the hash, none has the To
-  pub none-stands : ((n : ℕ) → test n ≡ false) → FindsFirst (HasTo texts to t) t debts None
-  none-stands none = λ k d within has. true≢false (sym (passes k d within has).0 ∙ none (get_or debts k d).message)
-
-  -- the message that is found first by the test is kept
-  pub first-kept : (message : ℕ) → IsFirstPaid Passes t debts (Some message) → Keeps texts message
-  first-kept message (one, same) =
-      let K : Debt → Type 0 = λ d. Keeps texts d.message in
-      subst (Keeps texts) same (All-head K one.first one.after (All-back K one.before (one.first ∷ one.after) (subst (All K) one.whole known)))
-
-  -- where it has the To, it is the first that does
-  pub first-passes : (message : ℕ) → IsFirstPaid Passes t debts (Some message) → IsToOf (text_of texts message) to → FindsFirst (HasTo texts to t) t debts (Some message)
-  first-passes message (one, same) its =
-      let W : Debt → Type 0 = λ d. HasTo texts to t d → Passes d in
+  -- where the messages of a row with the To are in a set, and what is found by the set has the To, it is what is found by the To
+  pub found-with : (set : List Word) (debts : List Debt) (found : Option ℕ) → All (λ d. Has d → PaysSome (numbers_of set) t d) debts →
+      IsFirstPaid (PaysSome (numbers_of set) t) t debts found → IfSome found (λ m. IsToOf (text_of texts m) to) → FindsFirst Has t debts found
+  found-with set debts None passes none its = λ k d within has. none k d within (passes k d within has)
+  found-with set debts (Some message) passes (one, same) its =
+      let W : Debt → Type 0 = λ d. Has d → PaysSome (numbers_of set) t d in
       record {
         before = one.before;
         first = one.first;
         after = one.after;
-        -- the message of the debt has the To, and none before it has, since all with the To pass the test
         whole = one.whole;
         holds = (subst (λ n. IsToOf (text_of texts n) to) (sym same) its, one.holds.1);
-        none_before = λ k d within has. one.none_before k d within (All-front W one.before (one.first ∷ one.after) (subst (All W) one.whole passes) k d within has);
+        -- none before it has the To, since all with the To are in the set
+        none_before = λ k d within has. one.none_before k d within
+            (All-front W one.before (one.first ∷ one.after) (subst (All W) one.whole passes) k d within has);
         rest = one.rest;
+      }
+
+  -- a set that has all kept messages with the To and with numbers between which those lie that rows owe has those that a row owes
+  pub in-set : (low high : ℕ) (rows : List (List Debt)) (row : ℕ) (set : List Word) → row < length rows → All (AreBetween low high) rows →
+      All (Keeps texts) (owes_names (owed_in rows row)) → HasAll texts low high to set → All (λ d. Has d → PaysSome (numbers_of set) t d) (owed_in rows row)
+  in-set low high rows row set inside spans kept all = λ k d within has.
+      let between = All-get_or (AreBetween low high) rows row [] inside spans k d within in
+      (all (get_or (owed_in rows row) k d).message (All-names (Keeps texts) (owed_in rows row) kept k d within) between.0 between.1 has.0, has.1)
+
+  -- each number of the set is of a message with the To, and of these names each whose message has it is in the set
+  pub record AreWith (set : List Word) (names : List ℕ) : Type 0 where
+    pub only : (n : ℕ) → numbers_of set n ≡ true → IsToOf (text_of texts n) to
+    pub each : All (λ n. IsToOf (text_of texts n) to → numbers_of set n ≡ true) names
+
+  -- a send of a message pays a debt of it whose deadline is not before t
+  payable : (debt : Debt) → t ≤ debt.deadline → is_payable debt.message t debt ≡ true
+  payable debt now = grind (arith, nat_tests)
+
+  -- a send of a message with the To pays only debts of messages that have it
+  pays : (message : ℕ) (debt : Debt) → IsToOf (text_of texts message) to → is_payable message t debt ≡ true → Has debt
+  pays message debt its paid =
+      let same : debt.message ≡ message = grind (arith, nat_tests) in
+      (subst (λ n. IsToOf (text_of texts n) to) (sym same) its, grind (arith, nat_tests))
+
+  -- where the message of a debt has the To, and that of no payable debt before it, that is the debt that is found
+  pub first-at : (debts : List Debt) (at : ℕ) (d : Debt) → at < length debts → All (λ x. ¬ (Has x)) (take at debts) → Has (get_or debts at d) →
+      FindsFirst Has t debts (Some (get_or debts at d).message)
+  first-at [] at d low none has = absurd (omega (arith, low))
+  first-at (debt ∷ debts) zero d low none has = record {
+    before = [];
+    first = debt;
+    after = debts;
+    whole = refl;
+    holds = has;
+    none_before = All-nil (λ x. ¬ (Has x));
+    rest = ap (λ b. cond b debts (debt ∷ paid_by debt.message t debts)) (payable debt has.1);
+  }
+  -- the first debt is not paid, and the one is among the others
+  first-at (debt ∷ debts) (suc at) d low none has =
+      let message = (get_or debts at d).message in
+      let fails = All-head (λ x. ¬ (Has x)) debt (take at debts) none in
+      let one = first-at debts at d (omega (arith, low)) (All-tail (λ x. ¬ (Has x)) debt (take at debts) none) has in
+      record {
+        before = debt ∷ one.before;
+        first = one.first;
+        after = one.after;
+        whole = ap (λ ds. debt ∷ ds) one.whole;
+        holds = one.holds;
+        none_before = All-cons (λ x. ¬ (Has x)) debt one.before fails one.none_before;
+        rest = ap (λ b. cond b debts (debt ∷ paid_by message t debts))
+            (false_from_ne_true (is_payable message t debt) (λ paid. fails (pays message debt has.0 paid))) ∙ ap (λ ds. debt ∷ ds) one.rest;
       }

@@ -1,6 +1,10 @@
--- The To that stands beside a kept message stays what it is, and tells which of the messages has a To.
-use Rattle.sip_machine.proofs.Words.{◌≡◌, ◌≢◌, ◌<◌, ◌≤◌, ◌↔◌, ◌-◌, ◌+◌, ℕ, Bool, true, false, IfSome, IsTrue, Option, Some, None, bytes_eq, List, [], ◌∷◌, ◌++◌, All, AllPairs, Contains, is_some, length, map, slice_get, take, items_where_true, bytes_decides, true≢false, sym, ◌∙◌, ap, subst, arith, get_or, nat_tests, and-false, cases_lt, ne_eqb, get_or_picked, get_or_from_slice_get, get_or-map, get_or-take, length-map, length-take-le, take_all, All-contains, All-contains_itself, All-from_retain, IsFiltered, All-get_or, All-push, All-weaker, AllPairs-cons, AllPairs-head, AllPairs-tail, same_reading, solid, Texts, IsBook, Keeps, text_of, only, To, full_hash, IsToOf, IsTo, AreTos, AreUnder, StandUnder, IsChanged, IsUnder, count_between}
-use Rattle.sip_machine.specs.inner.Hashes.{Sets, stands}
+-- The To that stands beside a kept message stays what it is, and tells which of the messages has a To. The numbers of messages stand under the hashes of Tos.
+use Rattle.sip_machine.proofs.Words.{◌≡◌, ◌<◌, ◌≤◌, ◌↔◌, ◌-◌, ℕ, Bool, true, false, IsTrue, Option, None, Some, bytes_eq, List, [], ◌∷◌, ◌++◌, All, AllPairs, Contains, length, map, slice_get, take, items_where_true, bytes_decides, sym, ◌∙◌, ap, subst, arith, get_or, nat_lt, nat_tests, and-false, cases_lt, ne_eqb, get_or_picked, get_or_from_slice_get, get_or-map, get_or-take, length-map, length-take-le, take_all, All-contains, All-contains_itself, All-from_retain, IsFiltered, All-get_or, All-push, All-take, All-weaker, AllPairs-cons, AllPairs-head, AllPairs-tail, same_reading, solid, Texts, IsBook, Keeps, text_of, only, To, full_hash, numbers_of, IsToOf, IsTo, AreTos, AreUnder, HasAll, IsChanged, count_between, cond, ◌==◌}
+use Rattle.std.specs.BTreeMap.{is_at}
+use Rattle.std.specs.Map.{lookup}
+use Rattle.std.specs.Ordering.{nat_cmp}
+use Rattle.sip_numbers.specs.declared.numbers.Word.{Word}
+use Rattle.sip_machine.specs.inner.Tos.{Sets, is_in, stands}
 use Rattle.sip_machine.proofs.texts.BesideLemmas.{among-all, count_between-is, many}
 use Rattle.sip_machine.proofs.texts.TextLaws.{Keeps-grow, text_of-grow}
 use Rattle.sip_machine.proofs.texts.RetainLemmas.{only-Keeps, text_of-only}
@@ -60,8 +64,9 @@ before_last tos last up is k d low =
     let lt = up k (length tos - 1) d low (omega (arith, low)) in
     subst (λ (to : To). (get_or tos k d).number < to.number) (get_or_from_slice_get tos (length tos - 1) last d (sym is)) lt
 
--- where the last To of the list has a number below this one, all have
-pub below_last : (tos : List To) (number : ℕ) (last : To) → AllPairs below tos → Some last ≡ slice_get tos (length tos - 1) → last.number < number → All (λ to. to.number < number) tos
+-- where a test finds the number of the last To of the list below this one, those of all are
+pub below_last : (tos : List To) (number : ℕ) (last : To) → AllPairs below tos → Some last ≡ slice_get tos (length tos - 1) →
+    IsTrue (nat_lt last.number number) → All (λ to. to.number < number) tos
 below_last tos number last up is low = λ k d within.
     grind (arith, nat_tests, before_last tos last up is k d, get_or_from_slice_get tos (length tos - 1) last d (sym is))
 
@@ -102,41 +107,48 @@ module _ {F : Type 0} (R : F → To → Bool → F → Type 0) (f : F) (tos left
 pub AllPairs-take : {X : Type 0} (R : X → X → Type 0) (n : ℕ) (xs : List X) → AllPairs R xs → AllPairs R (take n xs)
 AllPairs-take R n xs up = grind (arith, nat_tests, cases_lt, take_all, length-take-le, get_or-take)
 
--- What follows is of the numbers that stand under the hash of a To. Where no hashes are kept nothing is claimed of them, and they are kept after a change just
--- where they were before.
+-- where the entries are the same, the same numbers stand under each hash
+pub stands-same : (old new : Sets) → new.entries ≡ old.entries → (h n : ℕ) → stands new h n ≡ stands old h n
+unfolding stands
+stands-same old new same h n = ap (λ es. is_in (lookup (is_at (nat_cmp h)) es) n) same
 
--- a number that is put under a hash stands there
-pub put-here : (hash number : ℕ) (old new : Option Sets) → IsChanged hash number true old new → IsUnder new hash number
-put-here hash number old None changed = tt
-put-here hash number None (Some new) changed = absurd changed
-put-here hash number (Some old) (Some new) changed = grind (arith, nat_tests, changed hash number)
+-- What follows is of sets in which `there` is what stands under a hash, if a set does, and of one number there.
+module _ (old : Sets) (hash number : ℕ) (is_there : Bool) (there : Option (List Word)) (is : there ≡ lookup (is_at (nat_cmp hash)) old.entries) where
+  -- where another set stands there now, which has the number just if `is_there`, and others as before, that number alone is changed
+  pub set-changed : (new : Sets) (set : List Word) →
+      ((h : ℕ) → lookup (is_at (nat_cmp h)) new.entries ≡ cond (is_at (nat_cmp hash) h) (Some set) (lookup (is_at (nat_cmp h)) old.entries)) →
+      ((n : ℕ) → numbers_of set n ≡ cond (n == number) is_there (is_in there n)) → IsChanged hash number is_there old new
+  unfolding stands
+  set-changed new set each has h n = grind (arith, nat_tests, is, each h, has n)
 
--- where a number is put under a hash, what stood under a hash stands there
-pub put-keeps : (hash number : ℕ) (old new : Option Sets) → IsChanged hash number true old new → (h n : ℕ) → IsUnder old h n → IsUnder new h n
-put-keeps hash number old None changed h n is = tt
-put-keeps hash number None (Some new) changed h n is = absurd changed
-put-keeps hash number (Some old) (Some new) changed h n is = grind (arith, nat_tests, changed h n)
+  -- where no set stands there, to take the number changes nothing
+  pub none-taken : there ≡ None → is_there ≡ false → IsChanged hash number is_there old old
+  unfolding stands
+  none-taken none gone h n = grind (arith, nat_tests, is, none, gone)
 
 -- where the number of a To is put under its hash, it stands there after the others, and these stand under theirs
-pub under-put : (to : To) (old new : Option Sets) (tos : List To) → IsChanged (full_hash to.text) to.number true old new → AreUnder old tos → AreUnder new (tos ++ to ∷ [])
+pub under-put : (to : To) (old new : Sets) (tos : List To) → IsChanged (full_hash to.text) to.number true old new → AreUnder tos old →
+    AreUnder (tos ++ to ∷ []) new
 under-put to old new tos changed under =
-    All-push (λ t. IsUnder new (full_hash t.text) t.number) tos to
-    (λ k d low. put-keeps (full_hash to.text) to.number old new changed (full_hash (get_or tos k d).text) (get_or tos k d).number (under k d low))
-    (put-here (full_hash to.text) to.number old new changed)
+    All-push (λ t. stands new (full_hash t.text) t.number ≡ true) tos to
+    (λ k d low. let was = under k d low in let t = get_or tos k d in grind (arith, nat_tests, changed (full_hash t.text) t.number))
+    (grind (arith, nat_tests, changed (full_hash to.text) to.number))
 
--- where a number is taken from a hash, Tos with lesser numbers stand where they stood
-pub under-taken : (hash number : ℕ) (old new : Option Sets) (tos : List To) → IsChanged hash number false old new → All (λ to. to.number < number) tos → AreUnder old tos → AreUnder new tos
-under-taken hash number old None tos changed lower under = λ k d low. tt
-under-taken hash number None (Some new) tos changed lower under = absurd changed
-under-taken hash number (Some old) (Some new) tos changed lower under = λ k d low.
+-- where a number is taken from a hash, the first Tos, which have lesser numbers, stand where they stood
+pub under-taken : (hash number : ℕ) (old new : Sets) (n : ℕ) (tos : List To) → IsChanged hash number false old new →
+    All (λ to. to.number < number) (take n tos) → AreUnder tos old → AreUnder (take n tos) new
+under-taken hash number old new n tos changed lower under = λ k d low.
     let less = lower k d low in
-    let stood = under k d low in
-    grind (arith, nat_tests, changed (full_hash (get_or tos k d).text) (get_or tos k d).number, ne_eqb, and-false)
+    let stood = All-take (λ to. stands old (full_hash to.text) to.number ≡ true) n tos under k d low in
+    let to = get_or (take n tos) k d in
+    grind (arith, nat_tests, changed (full_hash to.text) to.number, ne_eqb, and-false)
 
--- where no hashes are kept, nothing is claimed of them
-pub none-under : (hashes : Option Sets) (tos : List To) → is_some hashes ≡ false → AreUnder hashes tos
-none-under None tos none = λ k d low. tt
-none-under (Some sets) tos none = absurd (true≢false none)
+-- the set that is found under the hash of a To has the numbers of all Tos of the list that are the same
+pub under-found : (sets : Sets) (tos : List To) (to : List ℕ) (hash : ℕ) (found : Option (List Word)) → hash ≡ full_hash to →
+    found ≡ lookup (is_at (nat_cmp hash)) sets.entries → AreUnder tos sets → All (λ its. its.text ≡ to → is_in found its.number ≡ true) tos
+unfolding stands
+under-found sets tos to hash found of_to is under = λ k d low same.
+    ap (λ o. is_in o (get_or tos k d).number) (is ∙ ap (λ h. lookup (is_at (nat_cmp h)) sets.entries) (of_to ∙ ap full_hash (sym same))) ∙ under k d low
 
 -- where the values that f gives rise along a list, the list of these values rises
 pub AllPairs-map : {X : Type 0} (f : X → ℕ) (xs : List X) → AllPairs (λ a b. f a < f b) xs → AllPairs (λ a b. a < b) (map f xs)
@@ -166,15 +178,12 @@ module _ (texts : Texts) (tos : List To) (low high : ℕ) (book : IsBook texts) 
       (numbers_kept texts tos are) as_few number kept from to in
       (i, rw length-map at within, sym (get_or-map (λ to. to.number) tos i nobody number (rw length-map at within)) ∙ at)
 
-  -- what is told of the messages of the list is told of the kept messages
-  pub stand_told : {V : Type 0} (sets : V → Sets) (r : Option V) → IfSome r (λ hashes. AreUnder (Some (sets hashes)) tos) →
-      IfSome r (λ hashes. StandUnder texts low high (sets hashes))
-  stand_told sets None under = tt
-  stand_told sets (Some hashes) under = λ number text kept from to is.
-      let (i, within, at) = beside number kept from to in
+  -- a set with the numbers of all Tos of the list that are this one has those of all such messages
+  pub has-all : (to : List ℕ) (set : List Word) → All (λ its. its.text ≡ to → numbers_of set its.number ≡ true) tos → HasAll texts low high to set
+  has-all to set all = λ number kept from to_high is.
+      let (i, within, at) = beside number kept from to_high in
       let there = get_or tos i nobody in
-      -- the To that stands there is the message's one To, and stands under its hash
+      -- the To that stands there is the message's one To
       let its = All-get_or (IsTo texts) tos i nobody within are.each in
-      let same = IsToOf-one (text_of texts number) text there.text (subst (λ n. IsToOf (text_of texts n) there.text) at its.text) is in
-      let under_its = All-get_or (λ to. IsUnder (Some (sets hashes)) (full_hash to.text) to.number) tos i nobody within under in
-      subst (λ words. stands (sets hashes) (full_hash words) number ≡ true) same (subst (λ n. stands (sets hashes) (full_hash there.text) n ≡ true) at under_its)
+      let same = IsToOf-one (text_of texts number) to there.text (subst (λ n. IsToOf (text_of texts n) there.text) at its.text) is in
+      subst (λ n. numbers_of set n ≡ true) at (All-get_or (λ its. its.text ≡ to → numbers_of set its.number ≡ true) tos i nobody within all same)

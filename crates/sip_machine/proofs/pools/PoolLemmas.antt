@@ -1,6 +1,7 @@
 -- The states of a pool: a list of phases and a list of what is owed, read as one list.
 use Prim.Native.Nat.{suc, zero}
-use Rattle.sip_machine.proofs.Words.{◌≡◌, ◌==◌, ◌↔◌, ◌<◌, ◌≤◌, ℕ, IsTrue, List, [], ◌∷◌, ◌++◌, drop, get_or, length, set, take, HoldsAt, refl, sym, ◌∙◌, ap, ap₂, subst, arith, nat_tests, get_or-append_seam, take-append_seam, length-drop, set-get_or, set_at, set_split, drop_all, length-take, length_push, take-take, take_all, dropped-first, Debt, CodeOwing, at_rest, state_in, Rest, Stays, Pays, owed_in, rested_debts, rests_at, beside}
+use Rattle.std.specs.List.{copy_within}
+use Rattle.sip_machine.proofs.Words.{◌≡◌, ◌==◌, ◌↔◌, ◌<◌, ◌≤◌, ℕ, IsTrue, List, [], ◌∷◌, ◌++◌, drop, get_or, length, set, take, HoldsAt, refl, sym, ◌∙◌, ap, ap₂, subst, arith, nat_tests, get_or-append_seam, take-append_seam, length-drop, set-get_or, set_at, set_split, drop_all, length-take, length_push, take-take, take_all, take_at, take_rest, length-take-le, ◌-◌, Debt, CodeOwing, at_rest, state_in, Rest, Stays, Pays, owed_in, rested_debts, rests_at, beside}
 
 -- What follows is of phases beside the rows of what is owed, as the states of a pool.
 module _ {S : Type 0} where
@@ -138,6 +139,10 @@ module _ {X : Type 0} where
 
 -- how phases and rows of a pool stand beside each other: the lemmas that `using(..)` gives the prover in `src/pool.rt`
 pub ruleset of_pool = (beside-length, phase-at, beside-append, beside-set, beside-take, empty-length, in-phases, in-rows, rested-set, state-at, same-state, take-append_seam, take_all, length_push, not-shorter, front-again)
+
+-- where all items are moved to the front by `count` places, and the last ones are left out, the first `count` items are dropped
+pub dropped-first : {X : Type 0} (count len : ℕ) (xs : List X) → len ≡ length xs → count ≤ length xs → take (len - count) (copy_within xs count len 0) ≡ drop count xs
+dropped-first count len xs is few = grind (arith, nat_tests, length-drop, take_at, length-take-le, take_rest)
 
 -- what is left in a pool after the first states: the lemmas that `using(..)` gives the prover in `src/pool.rt`
 pub ruleset of_drop = (beside-length, beside-drop, dropped-first, length-drop)

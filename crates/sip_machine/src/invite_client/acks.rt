@@ -1,19 +1,16 @@
 //! The response to which an ACK belongs: the INVITE and the ACK are read anew, and tell all but the response, which is told by its To alone.
-ghost use Rattle.std.specs.Prelude.{◌≡◌, ◌<◌, ◌↔◌, IfOk, IfSome, IsTrue, All, length};
-ghost use Rattle.sip_ledger.specs.Debts.{IsFirstPaid, PaysSome};
-ghost use Rattle.sip_numbers.specs.Numbers.{numbers_of};
+ghost use Rattle.std.specs.Prelude.{◌≡◌, ◌<◌, IfOk, IfSome, All, length};
 ghost use Rattle.sip_machine.specs.Owes.{owed_in, owes_names};
 ghost use Rattle.sip_machine.specs.Texts.{Keeps, text_of};
 ghost use Rattle.sip_machine.specs.inner.Acks.{HasTo, PaysDebt};
 ghost use Rattle.sip_machine.specs.inner.Paying.{FindsFirst};
-ghost use Rattle.sip_machine.specs.inner.Tos.{IsToOf};
 
 use crate::book::Book;
 use crate::dues::Dues;
 use crate::event::Event;
 use crate::hashed::Hashed;
 use sip_key::{is_ack_for, solid_of};
-use sip_ledger::{Accounts, Debt};
+use sip_ledger::Accounts;
 use sip_numbers::Numbers;
 use std::alloc::{AllocError, Global};
 
@@ -85,12 +82,19 @@ fn first_with_to(
         return Ok(Some(message));
     }
     let (low, high) = accounts.span();
-    if book.hashes(low, high).is_none() {
+    let Some(messages) = book.under(low, high, to) else {
         return first_named(alloc, book, to, moment, accounts, row);
-    }
+    };
     for most in STEPS {
-        if let Some(found) = first_under(alloc, book, to, moment, accounts, row, most)? {
-            return Ok(found);
+        if let Some(found) = accounts.first_payable(row, messages, moment, most) {
+            // No debt that can still be paid is of a message in the set, and so none is of one with the To.
+            let Some(message) = found else {
+                return Ok(None);
+            };
+            // Another To may have the same hash, and then the hash tells nothing.
+            if book.has_to(alloc, message, to, &mut 0)? {
+                return Ok(Some(message));
+            }
         }
         let debts = most.saturating_mul(8);
         if let Some(found) = first_of_oldest(alloc, book, to, moment, accounts, row, debts)? {
@@ -100,7 +104,8 @@ fn first_with_to(
     first_named(alloc, book, to, moment, accounts, row)
 }
 
-/// What `first_with_to` finds, where one of this many oldest debts has the To, or where the row owes fewer.
+/// What `first_with_to` finds, where one of this many oldest debts has the To, or where the row owes fewer. Each is looked at in their order, in which
+/// the messages mostly came.
 fn first_of_oldest(
     alloc: Global,
     book: &Book,
@@ -115,75 +120,18 @@ fn first_of_oldest(
     ensures { IfOk result (λ found. IfSome found (FindsFirst (HasTo book.now to.now moment) moment (owed_in accounts.now row))) }
 {
     let debts = accounts.first_debts(alloc, row, most)?;
-    let found = first_of(alloc, book, to, &debts, moment)?;
-    if found.is_some() {
-        return Ok(Some(found));
+    let mut near = 0;
+    for debt in &debts {
+        let message = debt.message;
+        if moment <= debt.deadline && book.has_to(alloc, message, to, &mut near)? {
+            return Ok(Some(Some(message)));
+        }
     }
     // All debts were looked at, and none that can still be paid has the To.
     if debts.len() < most {
         return Ok(Some(None));
     }
     Ok(None)
-}
-
-/// The message of the first of these debts whose message has this To and whose deadline has not passed, found by a look at each in
-/// their order, in which the messages mostly came.
-fn first_of(
-    alloc: Global,
-    book: &Book,
-    to: &Hashed,
-    debts: &[Debt],
-    moment: u64,
-) -> Result<Option<u64>, AllocError>
-    requires { All (λ debt. Keeps book.now debt.message) debts.now }
-    ensures { IfOk result (FindsFirst (HasTo book.now to.now moment) moment debts.now) }
-{
-    let mut near = 0;
-    for debt in debts {
-        let message = debt.message;
-        if moment <= debt.deadline && book.has_to(alloc, message, to, &mut near)? {
-            return Ok(Some(message));
-        }
-    }
-    Ok(None)
-}
-
-/// What `first_with_to` finds, where the hash of the To tells it in `most` steps: where all messages that are owed stand under the hashes of
-/// their Tos, and the first of them that stands under this hash has this To.
-fn first_under(
-    alloc: Global,
-    book: &Book,
-    to: &Hashed,
-    moment: u64,
-    accounts: &Accounts,
-    row: usize,
-    most: usize,
-) -> Result<Option<Option<u64>>, AllocError>
-    requires row { row < length accounts.now }
-    requires owed { All (Keeps book.now) (owes_names (owed_in accounts.now row)) }
-    ensures { IfOk result (λ found. IfSome found (FindsFirst (HasTo book.now to.now moment) moment (owed_in accounts.now row))) }
-{
-    let (low, high) = accounts.span();
-    // Where hashes are not kept, or some message between the two numbers has no To beside it, they tell nothing.
-    let Some(hashes) = book.hashes(low, high) else {
-        return Ok(None);
-    };
-    // No message stands under the hash, and so none has the To.
-    let Some(messages) = hashes.get(to.hash()) else {
-        return Ok(Some(None));
-    };
-    let Some(first) = accounts.first_payable(row, messages, moment, most) else {
-        return Ok(None);
-    };
-    // No debt that can still be paid is of a message under the hash, and so none is of one with the To.
-    let Some(message) = first else {
-        return Ok(Some(None));
-    };
-    // Another To may have the same hash, and then the hash tells nothing.
-    if !book.has_to(alloc, message, to, &mut 0)? {
-        return Ok(None);
-    }
-    Ok(Some(Some(message)))
 }
 
 /// What `first_with_to` finds, by a look at each message that the row owes, once.
@@ -202,25 +150,16 @@ fn first_named(
     let mut messages = Vec::new(alloc);
     accounts.names_once(row, &mut messages)?;
     book.count_messages(messages.len());
-    let those = with_to(alloc, book, to, &messages)?;
+    let mut those = Numbers::new(alloc);
+    let mut near = 0;
+    for message in &messages {
+        if book.has_to(alloc, *message, to, &mut near)? {
+            those.put(*message)?;
+        }
+    }
     let Some(found) = accounts.first_payable(row, &those, moment, usize::MAX) else {
         // No memory has room for as many messages as a number can count.
         return Err(AllocError);
     };
     Ok(found)
-}
-
-/// Those of the messages that have this To.
-fn with_to(alloc: Global, book: &Book, to: &Hashed, messages: &[u64]) -> Result<Numbers, AllocError>
-    requires { All (Keeps book.now) messages.now }
-    ensures { IfOk result (λ those. All (λ message. IsTrue (numbers_of those message) ↔ IsToOf (text_of book.now message) to.now) messages.now) }
-{
-    let mut those = Numbers::new(alloc);
-    let mut near = 0;
-    for message in messages {
-        if book.has_to(alloc, *message, to, &mut near)? {
-            those.put(*message)?;
-        }
-    }
-    Ok(those)
 }

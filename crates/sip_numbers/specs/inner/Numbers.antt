@@ -10,11 +10,12 @@ pub record AreWords (words : List Word) : Type 0 where
   pub rise : AllPairs (λ a b. a.block < b.block) words
   pub small : All (λ word. word.block < 2 ^ 58) words
 
--- the words before the place are of lesser blocks than this one, and those from it on are not
-pub record IsPlaceFor (words : List Word) (block at : ℕ) : Type 0 where
-  pub within : at ≤ length words
+-- the words before `at` are of lesser blocks than this one, those from `at` to `next` are of it, and those from `next` on are of greater ones
+pub record IsPlaceFor (words : List Word) (block at next : ℕ) : Type 0 where
+  pub within : next ≤ length words
   pub before : AllWithin (λ word. word.block < block) words 0 at
-  pub after : AllWithin (λ word. block ≤ word.block) words at (length words)
+  pub there : AllWithin (λ word. word.block ≡ block) words at next
+  pub after : AllWithin (λ word. block < word.block) words next (length words)
 
 -- `number` is the first number from `from` on that the word has
 pub record IsFirstOf (word : Word) (from number : ℕ) : Type 0 where

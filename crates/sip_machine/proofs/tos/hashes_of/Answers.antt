@@ -6,8 +6,8 @@ use Rattle.sip_machine.proofs.tos.hashes_of.Goals as goal
 pub loop-at-preserved : goal.loop-at-preserved
 loop-at-preserved c =
     let to = c.index-list-at.result in
-    let noted = rw c.hash.ensures at (on_ok c.note.result _ (rw c.is_err.ensures.value at c.if-is_err.false) c.note.ensures.ok) in
-    let under = under-put to c.loop-at.hashes c.note.new.hashes (take c.loop-at.at c.args.list.now) noted c.loop-at.invariant in
+    let noted = rw c.hash.ensures at (on_ok c.put.result _ (rw c.is_err.ensures.value at c.if-is_err.false) c.put.ensures.ok) in
+    let under = under-put to c.loop-at.sets c.put.new.sets (take c.loop-at.at c.args.list.now) noted c.loop-at.invariant in
     rw (take_more c.args.list.now c.loop-at.at to (omega arith), ← c.index-list-at.is) under
 
 -- at the end of the loop each To stands under its hash

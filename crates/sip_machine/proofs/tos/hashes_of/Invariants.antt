@@ -3,4 +3,4 @@ use Rattle.sip_machine.proofs.tos.hashes_of.Given as goal
 
 -- the numbers of the Tos before the index stand under their hashes
 abbrev pub invariant-loop-at : goal.invariant-loop-at
-invariant-loop-at l = AreUnder l.hashes (take l.at l.list)
+invariant-loop-at l = AreUnder (take l.at l.list) l.sets

@@ -22,7 +22,7 @@ pub returns-then-moment-entry-clause-found : goal.returns-then-moment-entry-clau
 returns-then-moment-entry-clause-found c =
     let left = c.in-Some.ensures.next.left in
     first-payable (sought-at c.loop-place.invariant.0 c.in-Some.place c.in-Some.ensures.next.order c.in-Some.ensures.next.before) c.if-account-place.false
-    (c.requires.gained.messages c.args.message c.in-Some.place left).message left (rw c.own-own.ensures at c.in-None.ensures.none) (rw c.entry.ensures at c.if-moment-entry.true)
+    (c.requires.gained.messages c.args.message c.in-Some.place left).1 left (rw c.own-own.ensures at c.in-None.ensures.none) (rw c.entry.ensures at c.if-moment-entry.true)
 
 -- where no place with the message is left, none of the account pays
 pub returns-clause-none : goal.returns-clause-none

@@ -1,5 +1,4 @@
-use Rattle.std.proofs.Common.{take_all}
-use Rattle.sip_ledger.proofs.Lemmas.{arith, told-all, told-first, told-more}
+use Rattle.sip_ledger.proofs.Lemmas.{arith, told-more}
 use Rattle.sip_ledger.proofs.accounts.account.first_debts.Goals as goal
 
 -- after one place more, the list has the debts of the account up to it
@@ -10,11 +9,3 @@ loop-place-preserved c =
       told = told-more c.requires.account was.told c.loop-place-test.true c.next-place.ensures c.debt_for.ensures c.in_ok-push.ensures.items;
       few = (let long = c.in_ok-push.ensures.items in let few = was.few in let other = c.if-len-most.false in omega (arith, long, few, other));
     }
-
--- as many debts were told as were asked for
-pub returns-then-len-most : goal.returns-then-len-most
-returns-then-len-most c = told-first c.requires.account c.loop-place.invariant.told (omega (arith, c.if-len-most.true))
-
--- all debts were told
-pub returns : goal.returns
-returns c = grind (arith, take_all, told-all)

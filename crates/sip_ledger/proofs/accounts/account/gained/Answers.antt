@@ -12,7 +12,7 @@ returns-then-account c =
 pub returns : goal.returns
 returns c =
     let rest = c.eased-eased.ensures.rest in
-    let new = more-gain c.args.gains.now c.args.strikes.now.items c.pass_to.new.strikes.items c.eased-eased.result c.in_ok-passed.passed _ c.args.debt c.args.place (rw c.deref.ensures.value at c.eased-eased.ensures.account) (rw c.deref.ensures.value at c.eased-eased.ensures.next)
-    (λ same. c.if-account.false (ap (λ (a : Account). a.start) (sym rest) ∙ same ∙ ap (λ (a : Account). a.end) rest)) c.in_ok-passed.ensures.passed refl
+    let new = more-gain c.args.gains.now c.args.strikes.now.items c.put.new.strikes.items c.eased-eased.result c.in_ok-passed.passed _ c.args.debt c.args.place (rw c.deref.ensures.value at c.eased-eased.ensures.account) (rw c.deref.ensures.value at c.eased-eased.ensures.next)
+    (λ same. c.if-account.false (ap (λ (a : Account). a.start) (sym rest) ∙ same ∙ ap (λ (a : Account). a.end) rest)) c.in_ok-passed.ensures.struck refl
     (ap (λ w. (c.args.account.print + w) % 2 ^ 64) c.worth.ensures ∙ ap (λ n. (n + worth_of c.args.debt.message c.args.debt.deadline) % 2 ^ 64) (ap (λ (a : Account). a.print) (sym rest))) in
-    record { kept = c.pass_to.ensures.kept; account = new.0; debts = new.1 ∙ ap (λ l. l ++ c.args.debt ∷ []) (rw c.deref.ensures.value at c.eased-eased.ensures.debts) }
+    record { kept = c.put.ensures.kept; account = new.0; debts = new.1 ∙ ap (λ l. l ++ c.args.debt ∷ []) (rw c.deref.ensures.value at c.eased-eased.ensures.debts) }

@@ -1,4 +1,4 @@
-use Rattle.sip_ledger.proofs.Lemmas.{arith, debts_length, gained-grown, gained-more, gained-over}
+use Rattle.sip_ledger.proofs.Lemmas.{account_debts, arith, length-map, gained-grown, gained-more, gained-over}
 use Rattle.sip_ledger.proofs.accounts.each.gain_some.Goals as goal
 
 -- where memory was refused for a gain, the rows are accounts still
@@ -15,7 +15,7 @@ returns-in_err-grown-clause-accounts c =
 pub loop-row-preserved : goal.loop-row-preserved
 loop-row-preserved c =
     let was = c.loop-row.invariant in
-    let all = debts_length c.args.gains.now c.args.strikes.now.items c.args.rows.now.items in
+    let all = length-map c.args.rows.now.items (account_debts c.args.gains.now c.args.strikes.now.items) in
     let low = was.low in
     -- the row has gained the debt, and the rows before it have it still
     record {

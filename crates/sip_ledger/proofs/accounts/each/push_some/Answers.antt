@@ -1,11 +1,11 @@
 -- `c.loop-row.invariant`: .0 and .1 say that the index is in range, .2 that `seek` is right, .3 what stands after the others for the rows so far.
-use Rattle.sip_ledger.proofs.Lemmas.{account-there, account_debts, arith, debts_length, inl, paid-grown, paid-next}
+use Rattle.sip_ledger.proofs.Lemmas.{account-there, account_debts, arith, length-map, inl, paid-grown, paid-next}
 use Rattle.sip_ledger.proofs.accounts.each.push_some.Goals as goal
 
 -- the row is an account
 pub paid-requires-clause-account : goal.paid-requires-clause-account
 paid-requires-clause-account c =
-    let long = debts_length c.args.gains.now c.args.strikes.now.items c.args.rows.now.items in
+    let long = length-map c.args.rows.now.items (account_debts c.args.gains.now c.args.strikes.now.items) in
     (account-there c.loop-row.row c.index.result.now c.loop-row.invariant.3 (omega (arith, long, c.requires.to)) c.index.ensures).0
 
 -- where memory is refused, the accounts are as right as before
@@ -20,7 +20,7 @@ returns-in_err-push_left-clause-accounts c =
 -- after one row more, the rows up to it that can pay the message are pushed with it paid
 pub loop-row-preserved : goal.loop-row-preserved
 loop-row-preserved c =
-    let long = debts_length c.args.gains.now c.args.strikes.now.items c.args.rows.now.items in
+    let long = length-map c.args.rows.now.items (account_debts c.args.gains.now c.args.strikes.now.items) in
     let low = c.loop-row.invariant.0 in
     -- the strikes that came in leave the rows before it as they were
     let at = account-there c.loop-row.row c.index.result.now c.loop-row.invariant.3 (omega (arith, long, c.requires.to)) c.index.ensures in

@@ -3,6 +3,4 @@ use Rattle.sip_ledger.proofs.accounts.left.let_go.Goals as goal
 
 -- one gain more has gone that no account owes
 pub loop-place-preserved : goal.loop-place-preserved
-loop-place-preserved c =
-    kept-less c.args.gains.now c.loop-place.gains c.let_go.new.self c.args.strikes.now c.args.rows.now c.in-Some.place c.loop-place.invariant c.let_go.ensures.gone c.let_go.ensures.gained
-    c.if-is_owed.ensures
+loop-place-preserved c = kept-less c.loop-place.invariant c.let_go.ensures c.if-is_owed.ensures

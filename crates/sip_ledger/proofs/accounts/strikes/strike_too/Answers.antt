@@ -1,15 +1,14 @@
-use Rattle.sip_ledger.proofs.Lemmas.{arith, longer-too, more-too, with_items_is, ◌∙◌}
+use Rattle.sip_ledger.proofs.Lemmas.{arith, get_or_default, longer_too, more_too, ◌≡◌}
 use Rattle.sip_ledger.proofs.accounts.strikes.strike_too.Goals as goal
 
--- a new strike strikes the place alone
-pub returns-in_ok-push-clause-ok : goal.returns-in_ok-push-clause-ok
-returns-in_ok-push-clause-ok c =
-    let v = c.args.strikes.now in
-    let whole = with_items_is v c.lengthen.new.strikes (c.lengthen.auto.strikes ∙ c.deref_mut.ensures.len) in
-    let same = whole ∙ c.if-not-lengthen.ensures.none ∙ c.deref_mut.ensures.value in
-    let more = rw (same, c.entry.ensures) at c.in_ok-push.ensures.items in
-    more-too c.args.gains.now c.args.place c.args.first v.items c.push.new.self.items c.requires.first more
-
 -- a strike that reaches up to the place was made longer, so that it strikes the place too
-pub returns-else-not-lengthen-clause-ok : goal.returns-else-not-lengthen-clause-ok
-returns-else-not-lengthen-clause-ok c = grind (arith, with_items_is, longer-too, more-too)
+pub returns-then-reaches-clause-ok : goal.returns-then-reaches-clause-ok
+returns-then-reaches-clause-ok c =
+    let is : c.index_mut.result.now ≡ c.index.result.now = grind (arith, get_or_default) in
+    grind (arith, is, longer_too c.args.gains.now c.args.place c.args.first c.loop-at.at c.args.strikes.now.items c.index.result.now)
+
+-- a new strike strikes the place alone
+pub returns-clause-ok : goal.returns-clause-ok
+returns-clause-ok c =
+    more_too c.args.gains.now c.args.place c.args.first c.args.strikes.now.items c.push.new.self.items c.requires.first
+    (rw (c.loop-at.invariant.1, c.entry.ensures) at c.in_ok-push.ensures.items)

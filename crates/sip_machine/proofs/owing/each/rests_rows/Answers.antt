@@ -1,13 +1,13 @@
 -- In the answers m is the machine by its figure and its phases, and e the event as the definitions have it.
 use Rattle.std.specs.Prelude.{◌≡◌, ◌<◌, ◌+◌, ◌∷◌, [], get_or, length}
 use Rattle.std.proofs.Common.{sym, ◌∙◌, ap, subst, arith}
-use Rattle.std.proofs.lemmas.List.{get_or_append_left}
+use Rattle.std.proofs.lemmas.List.{drop_all, get_or_append_left, length-take}
 use Rattle.sip_ledger.specs.Lists.{from_to}
-use Rattle.sip_ledger.proofs.lists.EachLemmas.{from_to-none}
 use Rattle.sip_machine.specs.NumberedEvent.{event_in}
 use Rattle.sip_machine.specs.Owing.{owing_seen, owing_names, OwingInRange}
 use Rattle.sip_machine.specs.Rules.{Covers, Knows}
 use Rattle.sip_machine.specs.inner.Effects.{RestsFrom}
+use Rattle.sip_machine.proofs.Words.{nat_tests}
 use Rattle.sip_machine.proofs.pools.CoversLemmas.{HasFound, found-none, found-more, Covers-alone, slice-at, before-more}
 use Rattle.sip_machine.proofs.pools.PoolLemmas.{some-at}
 use Rattle.sip_machine.proofs.pools.PoolEachLemmas.{from_to-more}
@@ -19,11 +19,12 @@ loop-at-init g c =
     let m = g.M.Phases in
     let texts = c.args.book.now in
     let e = event_in texts c.args.event.now in
+    let none : from_to c.args.from c.args.from c.args.pool.now ≡ [] = grind (arith, nat_tests, drop_all, length-take) in
     -- no state was asked, and nothing was pushed
     let P = RestsFrom m.figure (m.times c.args.machine.now) m.seen texts e in (
       omega arith,
       omega (arith, c.requires.from),
-      subst (λ xs. HasFound (owing_names m.names) (OwingInRange m.in_range) (owing_seen m.seen) texts P xs c.args.pool.now c.args.pool.now) (sym (from_to-none c.args.from c.args.from c.args.pool.now (omega arith)))
+      subst (λ xs. HasFound (owing_names m.names) (OwingInRange m.in_range) (owing_seen m.seen) texts P xs c.args.pool.now c.args.pool.now) (sym none)
           (found-none (owing_names m.names) (OwingInRange m.in_range) (owing_seen m.seen) texts P c.args.pool.now),
     )
 

@@ -1,5 +1,4 @@
 -- Of the invariant of Tos (`c.self.invariant`) part 0 says that the numbers of the messages rise, and 1 that each stands under its hash, if hashes are kept.
-use Rattle.sip_machine.proofs.steps.PayableLemmas.{lower}
 use Rattle.sip_machine.proofs.acks.ToLemmas.{below_last}
 use Rattle.sip_machine.proofs.tos.Tos.are_below.Goals as goal
 
@@ -7,4 +6,4 @@ use Rattle.sip_machine.proofs.tos.Tos.are_below.Goals as goal
 pub returns-in-Some : goal.returns-in-Some
 returns-in-Some c lt =
     let is = rw (c.in-Some.is, c.deref.ensures.value) at c.last.ensures.value in
-    rw (← c.self.view_is) (below_last c.self.inside.list.items c.args.number c.in-Some.last.now c.self.invariant.0 is (lower c.in-Some.last.now.number c.args.number lt))
+    rw (← c.self.view_is) (below_last c.self.inside.list.items c.args.number c.in-Some.last.now c.self.invariant.0 is lt)

@@ -2,6 +2,7 @@
 use Rattle.sip_machine.proofs.Words.{◌<◌, All, all_pairs_push, To}
 use Rattle.sip_machine.proofs.acks.ToLemmas.{below, under-put}
 use Rattle.sip_machine.proofs.tos.Tos.push.Goals as goal
+use Rattle.sip_machine.proofs.tos.Tos.push.Goals.{in-Some+in_ok-put, in_default}
 
 -- with the new To the others are in order, and each stands under its hash
 pub invariant_of-self-2 : goal.invariant_of-self-2
@@ -10,5 +11,10 @@ invariant_of-self-2 c =
     let to : To = record { number = c.args.number; text = c.args.text } in
     -- all others have lesser numbers, so that the new one comes last
     let lower : All (λ t. t.number < c.args.number) tos = rw c.self.view_is c.requires in
-    rw c.in_ok-push.ensures.items
-    (all_pairs_push below tos to c.self.invariant.0 lower, under-put to c.self.inside.hashes c.note.new.hashes tos (rw c.hash.ensures at c.in_ok-note.ensures.ok) c.self.invariant.1)
+    let rise = all_pairs_push below tos to c.self.invariant.0 lower in
+    elim c.match-self.branch [
+      | in-Some+in_ok-put w ↦
+          rw (c.in_ok-push.ensures.items, w.self-inside-is)
+          (rise, under-put to _ w.put.new.sets tos (rw w.hash.ensures at w.in_ok-put.ensures.ok) (rw w.in-Some.is at c.self.invariant.1))
+      | in_default w ↦ rw (c.in_ok-push.ensures.items, w.self-inside-is, w.in_default.is) (rise, tt)
+    ]

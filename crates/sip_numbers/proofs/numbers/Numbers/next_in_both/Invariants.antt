@@ -1,8 +1,8 @@
 use Rattle.std.proofs.Common.{◌+◌, ◌-◌, length}
-use Rattle.sip_numbers.proofs.bits.BothLemmas.{AreLeft}
+use Rattle.sip_numbers.proofs.BothLemmas.{AreLeft}
 use Rattle.sip_numbers.proofs.numbers.Numbers.next_in_both.Given as goal
 
--- each number from `from` on that both sets have is one of a word at `at` or after it, and of one at `beside` or after it
+-- no number from `from` on that both sets have is of a word before `at`, or of one of the others before `beside`
 abbrev pub invariant-loop-at : goal.invariant-loop-at
 invariant-loop-at l = AreLeft l.self-inside.words.items l.other-inside.words.items l.from l.at l.beside
 

@@ -6,9 +6,6 @@ pub returns : goal.returns
 returns c =
     let g = c.args.self.now in
     let len : c.len.result ≡ length g.entries.items = c.len.ensures ∙ g.entries.ok.0 in
-    let count = c.args.place - (g.end - c.len.result) in
-    -- the gains and their flags are those from the place on
-    let here : count + (g.end - length g.entries.items) ≡ c.args.place = omega (arith, len, c.requires.gained.long, c.requires.from) in
-    let all = gains-dropped g (record g { entries = c.drop_first.new.items; flags = c.drop_first-2.new.items }) c.args.place count c.requires.gained here c.requires.within
-    c.drop_first.ensures c.drop_first-2.ensures refl refl refl refl refl c.requires.none in
+    let here : c.args.place - (g.end - c.len.result) + (g.end - length g.entries.items) ≡ c.args.place = omega (arith, len, c.requires.gained.long, c.requires.from) in
+    let all = gains-dropped g _ c.args.place _ c.requires.gained here c.requires.within c.drop_first.ensures c.drop_first-2.ensures refl refl refl refl refl c.requires.none in
     record { gained = all.0; dropped = all.1 }

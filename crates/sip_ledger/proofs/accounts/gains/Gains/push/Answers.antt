@@ -1,40 +1,35 @@
-use Rattle.sip_ledger.proofs.Lemmas.{ap, arith, common_steps, Entry, Flags, Gains, gains-more, gains-same, holds, leb-true, nat_le, on-error, refl, rules, true, [], ◌++◌, ◌+◌, ◌∙◌, ◌∷◌, ◌≡◌}
+use Rattle.sip_ledger.proofs.Lemmas.{ap, arith, Entry, Flags, gains-more, gains-same, leb-true, nat_le, numbers_of, on-error, refl, true, [], ◌++◌, ◌+◌, ◌∙◌, ◌∷◌}
 use Rattle.sip_ledger.proofs.accounts.gains.Gains.push.Goals as goal
 
 -- where memory is refused for more entries, the gains are the same
-pub returns-in_err-reserve : goal.returns-in_err-reserve
-returns-in_err-reserve c =
-    let all = gains-same c.args.self.now (record c.args.self.now { entries = c.reserve.new.self }) c.requires c.reserve.ensures.items refl refl (λ m k. refl) (λ k. refl) refl refl in
-    record { gained = all.0; ok = first_of (search rules, grind (arith, common_steps)); err = on-error c.from_residual.result c.from_residual.ensures.0 all.1 }
+pub returns-in_err-reserve-clause-err : goal.returns-in_err-reserve-clause-err
+returns-in_err-reserve-clause-err c =
+    on-error c.from_residual.result c.from_residual.ensures.0
+    (gains-same c.args.self.now _ c.requires c.reserve.ensures.items refl refl (λ m k. refl) (λ k. refl) refl refl)
 
--- where memory is refused, the gains are the same
-pub returns-in_err-reserve-2 : goal.returns-in_err-reserve-2
-returns-in_err-reserve-2 c =
-    let all = gains-same c.args.self.now (record c.args.self.now { entries = c.reserve.new.self; flags = c.reserve-2.new.self }) c.requires c.reserve.ensures.items c.reserve-2.ensures.items refl
-    (λ m k. refl) (λ k. refl) refl refl in
-    record { gained = all.0; ok = first_of (search rules, grind (arith, common_steps)); err = on-error c.from_residual-in_err-reserve-2.result c.from_residual-in_err-reserve-2.ensures.0 all.1 }
+-- where memory is refused for more flags, the gains are the same
+pub returns-in_err-reserve-2-clause-err : goal.returns-in_err-reserve-2-clause-err
+returns-in_err-reserve-2-clause-err c =
+    on-error c.from_residual-in_err-reserve-2.result c.from_residual-in_err-reserve-2.ensures.0
+    (gains-same c.args.self.now _ c.requires c.reserve.ensures.items c.reserve-2.ensures.items refl (λ m k. refl) (λ k. refl) refl refl)
 
--- where memory is refused, the gains are the same
-pub returns-in_err-note : goal.returns-in_err-note
-returns-in_err-note c =
+-- where memory is refused for the place, the gains are the same
+pub returns-in_err-note-clause-err : goal.returns-in_err-note-clause-err
+returns-in_err-note-clause-err c =
     let noted = c.in_err-note.ensures.err in
-    let all = gains-same c.args.self.now (record c.args.self.now { entries = c.reserve.new.self; flags = c.reserve-2.new.self; messages = c.note.new.messages; musts = c.note.new.musts }) c.requires
-    c.reserve.ensures.items c.reserve-2.ensures.items refl noted.0 (λ k. ap (λ l. holds l 0 k) noted.1) refl refl in
-    record { gained = all.0; ok = first_of (search rules, grind (arith, common_steps)); err = on-error c.from_residual-in_err-note.result c.from_residual-in_err-note.ensures.0 all.1 }
+    on-error c.from_residual-in_err-note.result c.from_residual-in_err-note.ensures.0
+    (gains-same c.args.self.now _ c.requires c.reserve.ensures.items c.reserve-2.ensures.items refl noted.0 (λ k. ap (λ l. numbers_of l k) noted.1) refl refl)
 
--- with the new gain, its entry, its flags and its places in the indexes are right
-pub returns : goal.returns
-returns c =
-    let g = c.args.self.now in
+-- with the new gain, its entry, its flags and its place are right
+pub returns-clause-ok : goal.returns-clause-ok
+returns-clause-ok c =
     let e : Entry = record { message = c.args.debt.message; deadline = c.args.debt.deadline } in
-    let f : Flags = record { must = c.args.debt.must; left = true; newest = nat_le g.highest c.args.debt.message } in
-    let new : Gains = record { entries = c.push_reserved.new.self; flags = c.push_reserved-2.new.self; end = g.end + 1; messages = c.note.new.messages; musts = c.note.new.musts; rises = c.rise-rises.result; highest = c.max-self.result } in
-    let end = c.if-self.false in
-    let small = c.requires.small in
+    let newest = nat_le c.args.self.now.highest c.args.debt.message in
+    let f : Flags = record { must = c.args.debt.must; left = true; newest = newest } in
     -- the entry and its flags stand after the others
-    let entries : new.entries.items ≡ g.entries.items ++ e ∷ [] = c.push_reserved.ensures.items ∙ ap (λ l. l ++ e ∷ []) c.reserve.ensures.items in
-    let flags : new.flags.items ≡ g.flags.items ++ f ∷ [] = c.push_reserved-2.ensures.items ∙ ap (λ l. l ++ f ∷ []) c.reserve-2.ensures.items in
+    let entries = c.push_reserved.ensures.items ∙ ap (λ l. l ++ e ∷ []) c.reserve.ensures.items in
+    let flags = c.push_reserved-2.ensures.items ∙ ap (λ l. l ++ f ∷ []) c.reserve-2.ensures.items in
+    let highest = c.max-self.ensures in
     -- a gain is the newest of its kind where no kept message is greater
-    let all = gains-more g new c.args.debt (nat_le g.highest c.args.debt.message) c.requires entries flags refl (omega (arith, end, small)) c.in_ok-note.ensures.ok
-    (leb-true g.highest c.args.debt.message) (rw c.deref.ensures.value at c.rise-rises.ensures) (omega (arith, c.max-self.ensures)) (omega (arith, c.max-self.ensures)) in
-    record { gained = all.0; ok = all.1; err = tt }
+    gains-more c.args.self.now _ c.args.debt newest c.requires entries flags refl (omega (arith, c.if-self.false, c.requires.small)) c.in_ok-note.ensures.ok
+    (leb-true c.args.self.now.highest c.args.debt.message) (rw c.deref.ensures.value at c.rise-rises.ensures) (omega (arith, highest)) (omega (arith, highest))

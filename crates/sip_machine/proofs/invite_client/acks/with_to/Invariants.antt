@@ -1,7 +1,0 @@
-use Rattle.sip_machine.proofs.Words.{take}
-use Rattle.sip_machine.proofs.debts.LookLemmas.{AreWith}
-use Rattle.sip_machine.proofs.invite_client.acks.with_to.Given as goal
-
--- of the messages so far those with the To are in the set, and no others
-abbrev pub invariant-loop-message : goal.invariant-loop-message
-invariant-loop-message l = AreWith l.book l.to l.those (take l.message-index l.messages)

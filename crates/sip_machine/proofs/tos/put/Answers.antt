@@ -1,0 +1,36 @@
+use Rattle.std.proofs.Common.{sym, ◌∙◌, rules, ap, cond, true, ◌==◌, Some, None}
+use Rattle.std.proofs.lemmas.Map.Steps.{set_value_same}
+use Rattle.std.proofs.lemmas.Result.{on_err_weaker, on_ok_weaker}
+use Rattle.std.specs.BTreeMap.{is_at}
+use Rattle.std.specs.Ordering.{nat_cmp}
+use Rattle.sip_machine.proofs.acks.ToLemmas.{set-changed, stands-same}
+use Rattle.sip_machine.proofs.tos.put.Goals as goal
+
+-- the number is put into the set under the hash
+pub returns-in-Some-clause-ok : goal.returns-in-Some-clause-ok
+returns-in-Some-clause-ok c =
+    let set = c.put.new.self in
+    on_ok_weaker c.put.result
+    (set-changed c.args.sets.now c.args.hash c.args.number true (Some c.in-Some.set.now) c.in-Some.ensures.value (c.get_mut.follows.lender set) set
+    ((c.get_mut.follows.holds set).3 (search rules)).0) c.put.ensures.ok
+
+-- the set is as before, and so are all
+pub returns-in-Some-clause-err : goal.returns-in-Some-clause-err
+returns-in-Some-clause-err c =
+    let set = c.in-Some.set.now in
+    let same = (c.get_mut.follows.holds set).0 ∙ set_value_same (is_at (nat_cmp c.args.hash)) c.args.sets.now.entries set (sym c.in-Some.ensures.value) in
+    on_err_weaker c.put.result
+    (λ is. stands-same c.args.sets.now (c.get_mut.follows.lender c.put.new.self) (ap (λ s. (c.get_mut.follows.lender s).entries) is ∙ same)) c.put.ensures.err
+
+-- where no set can be put under the hash, all are as before
+pub returns-in_err-_old-clause-err : goal.returns-in_err-_old-clause-err
+returns-in_err-_old-clause-err c =
+    let same = stands-same c.args.sets.now c.insert.new.self (rw c.get_mut.follows.holds-at-none at c.in_err-_old.ensures.err) in
+    search (rules, same)
+
+-- a set with the number alone stands under the hash
+pub returns-clause-ok : goal.returns-clause-ok
+returns-clause-ok c =
+    let updates = rw c.get_mut.follows.holds-at-none at c.in_ok-_old.ensures.updates.0 in
+    set-changed c.args.sets.now c.args.hash c.args.number true None c.in_default.ensures.value c.insert.new.self c.put-2.new.self updates
+    (λ n. c.in_ok-put.ensures.ok n ∙ ap (cond (n == c.args.number) true) (c.new-set.ensures n))

@@ -39,12 +39,11 @@ pub use Rattle.sip_machine.specs.declared.effects.Rest.{Rest}
 pub use Rattle.sip_machine.specs.declared.effects.Rest.TheVariants.{Pays, Stays}
 pub use Rattle.sip_machine.specs.declared.slots.SlotPrint.{SlotPrint}
 pub use Rattle.sip_machine.specs.declared.tos.To.{To}
-pub use Rattle.sip_machine.specs.inner.Acks.{HasTo, PaysDebt}
 pub use Rattle.sip_machine.specs.inner.Both.{AnswersBoth}
 pub use Rattle.sip_machine.specs.inner.Dues.{AreBetween, blank_rows}
 pub use Rattle.sip_machine.specs.inner.Effects.{OrStays, led_by, repaid_at, rested_debts, rests_at}
 pub use Rattle.sip_machine.specs.inner.Order.{full_hash}
-pub use Rattle.sip_machine.specs.inner.Paying.{FindsFirst, PaysFor}
+pub use Rattle.sip_machine.specs.inner.Paying.{FindsFirst, HasTo, PaysFor}
 pub use Rattle.sip_machine.specs.inner.Pools.{AreFirstOnes, AreMixedWith, IsSought, beside, one_past, picked}
 pub use Rattle.sip_machine.specs.inner.Single.{AnswersOne, IsTheOne}
 pub use Rattle.sip_machine.specs.inner.Slots.{AreSlots, IsNewest, IsReached, Slotted, slot_of, slotted}

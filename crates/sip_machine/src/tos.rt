@@ -3,7 +3,7 @@ ghost use Rattle.std.specs.Prelude.{◌≡◌, ◌<◌, ◌++◌, ◌∷◌, [],
 ghost use Rattle.std.specs.List.{HoldsAt};
 ghost use Rattle.sip_numbers.specs.Numbers.{numbers_of};
 ghost use Rattle.sip_machine.specs.declared.tos.To.{To};
-ghost use Rattle.sip_machine.specs.inner.Tos.{AreUnder, IsChanged, count_between, stands};
+ghost use Rattle.sip_machine.specs.inner.Tos.{AreUnder, IsChanged, count_between};
 
 use crate::hashed::Hashed;
 use sip_numbers::Numbers;
@@ -96,10 +96,11 @@ impl Tos {
         ensures ok { OnOk result (self.new ≡ self.old ++ (record { number = number; text = text }) ∷ []) }
         ensures err { OnErr result (self.new ≡ self.old) }
     {
+        self.list.reserve(1)?;
         if let Some(sets) = &mut self.hashes {
             put(*self.list.allocator(), sets, text.hash(), number)?;
         }
-        self.list.push(To { number, text })?;
+        self.list.push_reserved(To { number, text });
         Ok(())
     }
 
@@ -123,7 +124,8 @@ impl Tos {
     pub(crate) fn retain(&mut self, numbers: &[u64])
         ensures { All (λ to. Contains self.old to × Contains numbers.now to.number) self.new }
     {
-        self.list.retain(|to| is_among(numbers, to.number));
+        self.list
+            .retain(|to| numbers.binary_search(&to.number).is_ok());
         self.hashes = hashes_of(*self.list.allocator(), &self.list, self.hashes.is_some());
     }
 
@@ -165,14 +167,7 @@ fn place_of(list: &[To], number: u64, here: usize) -> Option<usize>
     }
 }
 
-/// Whether the number is one of these numbers, which rise.
-fn is_among(numbers: &[u64], number: u64) -> bool
-    ensures { IsTrue result → Contains numbers.now number }
-{
-    numbers.binary_search(&number).is_ok()
-}
-
-/// Puts the number under the hash. On an error the same numbers stand under each hash as before.
+/// Puts the number under the hash. On an error all sets are as before.
 fn put(
     alloc: Global,
     sets: &mut BTreeMap<u64, Numbers>,
@@ -180,7 +175,7 @@ fn put(
     number: u64,
 ) -> Result<(), AllocError>
     ensures ok { OnOk result (IsChanged hash number true sets.old sets.new) }
-    ensures err { OnErr result ((h n : ℕ) → stands sets.new h n ≡ stands sets.old h n) }
+    ensures err { OnErr result (sets.new.entries ≡ sets.old.entries) }
 {
     if let Some(set) = sets.get_mut(&hash) {
         return set.put(number);
@@ -211,9 +206,7 @@ fn hashes_of(alloc: Global, list: &[To], are_kept: bool) -> Option<BTreeMap<u64,
     let mut sets = BTreeMap::new(alloc);
     for at in 0..list.len() {
         let to = &list[at];
-        if put(alloc, &mut sets, to.text.hash(), to.number).is_err() {
-            return None;
-        }
+        put(alloc, &mut sets, to.text.hash(), to.number).ok()?;
     }
     Some(sets)
 }

@@ -9,15 +9,15 @@ use Rattle.std.proofs.lemmas.List.Folds.{Any-from_list_any, list_any_at}
 use Rattle.sip_masks.proofs.BitLemmas.{test-and}
 use Rattle.sip_numbers.specs.Numbers.{IsFirstInBoth, NoneInBoth, has_bit, numbers_of}
 use Rattle.sip_numbers.specs.declared.numbers.Word.{Word}
-use Rattle.sip_numbers.specs.inner.Numbers.{AreWords, IsFirstOf}
+use Rattle.sip_numbers.specs.inner.Numbers.{AreWords, IsFirstOf, IsPlaceFor}
 
 -- the words before the place are of lesser blocks than the number
 abbrev pub IsPast : List Word → ℕ → ℕ → Type 0
 IsPast words at n = AllWithin (λ word. word.block < n / 64) words 0 at
 
--- no number from `from` on that both sets have is of a word before `at`, or of one of the others before `beside`
-pub record AreLeft (one other : List Word) (from at beside : ℕ) : Type 0 where
-  pub all : (n : ℕ) → from ≤ n → numbers_of one n ≡ true → numbers_of other n ≡ true → IsPast one at n × IsPast other beside n
+-- no number from `from` on that both sets have is of a word of the first one before `at`
+pub record AreLeft (one other : List Word) (from at : ℕ) : Type 0 where
+  pub all : (n : ℕ) → from ≤ n → numbers_of one n ≡ true → numbers_of other n ≡ true → IsPast one at n
 
 -- a word that has the number is of its block
 has-block : (n : ℕ) (word : Word) → has_bit n word ≡ true → word.block ≡ n / 64
@@ -72,72 +72,71 @@ pass words at {word} n within is past less =
     let Lesser = λ (w : Word). w.block < n / 64 in
     AllWithin-more Lesser words 0 at past (at_read words Lesser at word within is less)
 
--- where one set has no more words, both have no more numbers
-pub none-left : {one other : List Word} {from at beside : ℕ} → AreWords one → AreWords other → AreLeft one other from at beside →
-    (length one ≤ at) ⊎ (length other ≤ beside) → NoneInBoth (numbers_of one) (numbers_of other) from
-none-left one other left short n after has its_has =
-    let past = left.all n after has its_has in
-    elim short [
-      | inl short ↦ (let found = stands one n past.0 has in omega (arith, short, found.2, found.3))
-      | inr short ↦ (let found = stands other n past.1 its_has in omega (arith, short, found.2, found.3))
-    ]
+-- where the first set has no more words, both have no more numbers
+pub none-left : {one other : List Word} {from at : ℕ} → AreWords one → AreLeft one other from at → length one ≤ at →
+    NoneInBoth (numbers_of one) (numbers_of other) from
+none-left one left short n after has its_has =
+    let found = stands one n (left.all n after has its_has) has in
+    omega (arith, short, found.2, found.3)
 
--- What follows is of the words at `at` of one set and at `beside` of the other, where what both have is left from there on.
-module _ {one other : List Word} {from at beside : ℕ} {word its : Word} (in_one : AreWords one) (in_other : AreWords other)
-    (left : AreLeft one other from at beside) (within : at < length one) (inside : beside < length other)
-    (is : word ≡ get_or one at word) (is_its : its ≡ get_or other beside its) where
-  -- a word of a lesser block than that of the other is passed
-  pub pass-one : word.block < its.block → AreLeft one other from (at + 1) beside
-  pass-one less = record {
+-- What follows is of the word at `at` of the first set, where what both have is left from there on, and of the place of its block in the other set.
+module _ {one other : List Word} {from at beside next : ℕ} {word : Word} (in_one : AreWords one) (in_other : AreWords other)
+    (left : AreLeft one other from at) (within : at < length one) (is : word ≡ get_or one at word) (place : IsPlaceFor other word.block beside next) where
+  -- the word is not past a number that both have
+  here : (n : ℕ) → from ≤ n → numbers_of one n ≡ true → numbers_of other n ≡ true → Reaches word n
+  here n after has its_has = reached in_one n (left.all n after has its_has) has within is
+
+  -- words of the other set before the place are
+  past-other : (n : ℕ) → from ≤ n → numbers_of one n ≡ true → numbers_of other n ≡ true → IsPast other beside n
+  past-other n after has its_has k d low below = omega (arith, place.before k d low below, (here n after has its_has).0)
+
+  -- where no word of the other set is of the block, the word is passed
+  pub pass-alone : next ≡ beside → AreLeft one other from (at + 1)
+  pass-alone none = record {
     all = λ n after has its_has.
-        let past = left.all n after has its_has in
-        (pass one at n within is past.0 (omega (arith, less, (reached in_other n past.1 its_has inside is_its).0)), past.1);
+        let found = stands in_other n (past-other n after has its_has) its_has in
+        let block = ap (λ (w : Word). w.block) found.4 ∙ has-block n found.1 found.5 in
+        pass one at n within is (left.all n after has its_has) (omega (arith, block, place.after found.0 found.1 (omega (arith, none, found.2)) found.3));
   }
 
-  -- likewise in the other set
-  pub pass-other : its.block < word.block → AreLeft one other from at (beside + 1)
-  pass-other less = record {
-    all = λ n after has its_has.
-        let past = left.all n after has its_has in
-        (past.0, pass other beside n inside is_its past.1 (omega (arith, less, (reached in_one n past.0 has within is).0)));
-  }
+  -- What follows is of the other set's word of the block.
+  module _ {its : Word} (inside : beside < next) (is_its : its ≡ get_or other beside its) where
+    -- it is of the block
+    blocks : word.block ≡ its.block
+    blocks = sym (ap (λ (w : Word). w.block) is_its ∙ place.there beside its (omega arith) inside)
 
-  -- the common bits of words of one block are not past a number that both have
-  joint : word.block ≡ its.block → (n : ℕ) → from ≤ n → numbers_of one n ≡ true → numbers_of other n ≡ true → Reaches (both_of word its) n
-  joint blocks n after has its_has =
-      let past = left.all n after has its_has in
-      let here = reached in_one n past.0 has within is in
-      let there = reached in_other n past.1 its_has inside is_its in
-      (here.0, λ same. has-both n word its blocks ∙ ap₂ (λ a b. a && b) (here.1 same) (there.1 (sym blocks ∙ same)))
+    -- the common bits of both are not past a number that both have
+    joint : (n : ℕ) → from ≤ n → numbers_of one n ≡ true → numbers_of other n ≡ true → Reaches (both_of word its) n
+    joint n after has its_has =
+        let mine = here n after has its_has in
+        let there = reached in_other n (past-other n after has its_has) its_has (omega (arith, inside, place.within)) is_its in
+        (mine.0, λ same. has-both n word its blocks ∙ ap₂ (λ a b. a && b) (mine.1 same) (there.1 (sym blocks ∙ same)))
 
-  -- two words of a block that have no number from `from` on in common are passed
-  pub pass-both : word.block ≡ its.block → ((n : ℕ) → from ≤ n → has_bit n (both_of word its) ≡ false) → AreLeft one other from (at + 1) (beside + 1)
-  pass-both blocks none = record {
-    all = λ n after has its_has.
-        let past = left.all n after has its_has in
-        let common = joint blocks n after has its_has in
-        let less : word.block < n / 64 = elim (cases_eq word.block (n / 64)) [
-          | inl same ↦ absurd (false≢true (sym (none n after) ∙ common.1 same))
-          | inr other ↦ omega (arith, other, common.0)
-        ] in
-        (pass one at n within is past.0 less, pass other beside n inside is_its past.1 (omega (arith, blocks, less)));
-  }
+    -- where both have no number from `from` on in common, the word is passed
+    pub pass-both : ((n : ℕ) → from ≤ n → has_bit n (both_of word its) ≡ false) → AreLeft one other from (at + 1)
+    pass-both none = record {
+      all = λ n after has its_has.
+          let common = joint n after has its_has in
+          pass one at n within is (left.all n after has its_has) (elim (cases_eq word.block (n / 64)) [
+            | inl same ↦ absurd (false≢true (sym (none n after) ∙ common.1 same))
+            | inr differ ↦ omega (arith, differ, common.0)
+          ]);
+    }
 
-  -- the first number that they have in common is the first of both sets
-  pub first-both : {number : ℕ} → word.block ≡ its.block → IsFirstOf (both_of word its) from number →
-      IsFirstInBoth (numbers_of one) (numbers_of other) from number
-  unfolding numbers_of
-  first-both {number} blocks first =
-      let has : (has_bit number word ≡ true) × (has_bit number its ≡ true) = grind (arith, nat_tests, has-both number word its blocks, first.is) in
-      let block = has-block number word has.0 in
-      record {
-        in_one = list_any_at (has_bit number) one at word within (ap (has_bit number) (sym is) ∙ has.0);
-        in_other = list_any_at (has_bit number) other beside its inside (ap (has_bit number) (sym is_its) ∙ has.1);
-        after = first.after;
-        none_before = λ n after before has its_has.
-            let common = joint blocks n after has its_has in
-            false≢true (sym (first.none_before n after before) ∙ common.1 (omega (arith, before, block, common.0)));
-      }
+    -- the first number that they have in common is the first of both sets
+    pub first-both : {number : ℕ} → IsFirstOf (both_of word its) from number → IsFirstInBoth (numbers_of one) (numbers_of other) from number
+    unfolding numbers_of
+    first-both {number} first =
+        let has : (has_bit number word ≡ true) × (has_bit number its ≡ true) = grind (arith, nat_tests, has-both number word its blocks, first.is) in
+        let block = has-block number word has.0 in
+        record {
+          in_one = list_any_at (has_bit number) one at word within (ap (has_bit number) (sym is) ∙ has.0);
+          in_other = list_any_at (has_bit number) other beside its (omega (arith, inside, place.within)) (ap (has_bit number) (sym is_its) ∙ has.1);
+          after = first.after;
+          none_before = λ n after before has its_has.
+              let common = joint n after has its_has in
+              false≢true (sym (first.none_before n after before) ∙ common.1 (omega (arith, before, block, common.0)));
+        }
 
 -- what a turn of the loop leaves, and what is left after the last one
-pub ruleset turns = (pass-one, pass-other, pass-both, none-left)
+pub ruleset turns = (pass-alone, pass-both, none-left)

@@ -84,39 +84,32 @@ impl Numbers {
         ensures found { IfSome result (IsFirstInBoth (numbers_of self.now) (numbers_of other.now) from) }
         ensures none { IfNone result (NoneInBoth (numbers_of self.now) (numbers_of other.now) from) }
     {
-        let (Ok(mut at) | Err(mut at)) = place_for(&self.words, from / 64);
-        let (Ok(mut beside) | Err(mut beside)) = place_for(&other.words, from / 64);
-        while at < self.words.len() && beside < other.words.len() {
+        let (Ok(start) | Err(start)) = place_for(&self.words, from / 64);
+        for at in start..self.words.len() {
             let word = self.words[at];
-            let its = other.words[beside];
-            if word.block < its.block {
-                at += 1;
-            } else if its.block < word.block {
-                beside += 1;
-            } else {
+            if let Ok(beside) = place_for(&other.words, word.block) {
                 let both = Word {
                     block: word.block,
-                    bits: word.bits & its.bits,
+                    bits: word.bits & other.words[beside].bits,
                 };
                 if let Some(number) = first_from(both, from) {
                     return Some(number);
                 }
-                at += 1;
-                beside += 1;
             }
         }
         None
     }
 }
 
-/// The place of the word of this block, or the one where it would stand. Mostly the last word is asked for.
+/// The place of the word of this block, or the one where it would stand. Where no block is left out before it, the first word tells it.
 fn place_for(words: &[Word], block: u64) -> Result<usize, usize>
     requires { AreWords words.now }
     ensures { MatchResult result (λ at. IsPlaceFor words.now block at (at + 1)) (λ at. IsPlaceFor words.now block at at) }
 {
-    match words.last() {
-        Some(last) if last.block < block => Err(words.len()),
-        Some(last) if last.block == block => Ok(words.len() - 1),
+    let first = words.first().map_or(0, |word| word.block);
+    let near = block.saturating_sub(first) as usize;
+    match words.get(near) {
+        Some(word) if word.block == block => Ok(near),
         _ => words.binary_search_by_key(&block, |word| word.block),
     }
 }

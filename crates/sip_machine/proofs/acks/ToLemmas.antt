@@ -107,10 +107,10 @@ module _ {F : Type 0} (R : F → To → Bool → F → Type 0) (f : F) (tos left
 pub AllPairs-take : {X : Type 0} (R : X → X → Type 0) (n : ℕ) (xs : List X) → AllPairs R xs → AllPairs R (take n xs)
 AllPairs-take R n xs up = grind (arith, nat_tests, cases_lt, take_all, length-take-le, get_or-take)
 
--- where the entries are the same, the same numbers stand under each hash
-pub stands-same : (old new : Sets) → new.entries ≡ old.entries → (h n : ℕ) → stands new h n ≡ stands old h n
+-- where all sets are as before, Tos whose numbers stood under their hashes still have them there
+pub under-same : (old new : Sets) (tos : List To) → new.entries ≡ old.entries → AreUnder tos old → AreUnder tos new
 unfolding stands
-stands-same old new same h n = ap (λ es. is_in (lookup (is_at (nat_cmp h)) es) n) same
+under-same old new tos same under k d low = let to = get_or tos k d in ap (λ es. is_in (lookup (is_at (nat_cmp (full_hash to.text))) es) to.number) same ∙ under k d low
 
 -- What follows is of sets in which `there` is what stands under a hash, if a set does, and of one number there.
 module _ (old : Sets) (hash number : ℕ) (is_there : Bool) (there : Option (List Word)) (is : there ≡ lookup (is_at (nat_cmp hash)) old.entries) where

@@ -1,9 +1,9 @@
 //! The response to which an ACK belongs: the INVITE and the ACK are read anew, and tell all but the response, which is told by its To alone.
 ghost use Rattle.std.specs.Prelude.{◌≡◌, ◌<◌, IfOk, IfSome, All, length};
+ghost use Rattle.sip_standard.specs.AckOf.{AckOf};
 ghost use Rattle.sip_machine.specs.Owes.{owed_in, owes_names};
 ghost use Rattle.sip_machine.specs.Texts.{Keeps, text_of};
-ghost use Rattle.sip_machine.specs.inner.Acks.{HasTo, PaysDebt};
-ghost use Rattle.sip_machine.specs.inner.Paying.{FindsFirst};
+ghost use Rattle.sip_machine.specs.inner.Paying.{FindsFirst, HasTo, PaysFor};
 
 use crate::book::Book;
 use crate::dues::Dues;
@@ -34,7 +34,7 @@ pub(crate) fn first_acked(
     requires invite { Keeps book.now request }
     requires owed { All (Keeps book.now) (owes_names (owed_in dues.old row)) }
     ensures same { dues.new ≡ dues.old }
-    ensures finds { IfOk result (FindsFirst (PaysDebt book.now (text_of book.now event.now.number) (text_of book.now request) event.now.moment) event.now.moment (owed_in dues.old row)) }
+    ensures finds { IfOk result (FindsFirst (PaysFor (AckOf (text_of book.now event.now.number) (text_of book.now request)) book.now event.now.moment) event.now.moment (owed_in dues.old row)) }
 {
     // Nothing is read where nothing is owed.
     if dues.owes_nothing(row) {

@@ -1,4 +1,4 @@
-use Rattle.sip_machine.proofs.Words.{arith, take, take_all, take_more, on_ok}
+use Rattle.sip_machine.proofs.Words.{arith, rules, take, take_all, take_more, on_ok}
 use Rattle.sip_machine.proofs.acks.ToLemmas.{under-put}
 use Rattle.sip_machine.proofs.tos.hashes_of.Goals as goal
 
@@ -6,7 +6,7 @@ use Rattle.sip_machine.proofs.tos.hashes_of.Goals as goal
 pub loop-at-preserved : goal.loop-at-preserved
 loop-at-preserved c =
     let to = c.index-list-at.result in
-    let noted = rw c.hash.ensures at (on_ok c.put.result _ (rw c.is_err.ensures.value at c.if-is_err.false) c.put.ensures.ok) in
+    let noted = rw c.hash.ensures at (on_ok c.put.result _ (search rules) c.put.ensures.ok) in
     let under = under-put to c.loop-at.sets c.put.new.sets (take c.loop-at.at c.args.list.now) noted c.loop-at.invariant in
     rw (take_more c.args.list.now c.loop-at.at to (omega arith), ← c.index-list-at.is) under
 

@@ -3,7 +3,7 @@ use Rattle.std.proofs.lemmas.Map.Steps.{set_value_same}
 use Rattle.std.proofs.lemmas.Result.{on_err_weaker, on_ok_weaker}
 use Rattle.std.specs.BTreeMap.{is_at}
 use Rattle.std.specs.Ordering.{nat_cmp}
-use Rattle.sip_machine.proofs.acks.ToLemmas.{set-changed, stands-same}
+use Rattle.sip_machine.proofs.acks.ToLemmas.{set-changed}
 use Rattle.sip_machine.proofs.tos.put.Goals as goal
 
 -- the number is put into the set under the hash
@@ -19,14 +19,7 @@ pub returns-in-Some-clause-err : goal.returns-in-Some-clause-err
 returns-in-Some-clause-err c =
     let set = c.in-Some.set.now in
     let same = (c.get_mut.follows.holds set).0 ∙ set_value_same (is_at (nat_cmp c.args.hash)) c.args.sets.now.entries set (sym c.in-Some.ensures.value) in
-    on_err_weaker c.put.result
-    (λ is. stands-same c.args.sets.now (c.get_mut.follows.lender c.put.new.self) (ap (λ s. (c.get_mut.follows.lender s).entries) is ∙ same)) c.put.ensures.err
-
--- where no set can be put under the hash, all are as before
-pub returns-in_err-_old-clause-err : goal.returns-in_err-_old-clause-err
-returns-in_err-_old-clause-err c =
-    let same = stands-same c.args.sets.now c.insert.new.self (rw c.get_mut.follows.holds-at-none at c.in_err-_old.ensures.err) in
-    search (rules, same)
+    on_err_weaker c.put.result (λ is. ap (λ s. (c.get_mut.follows.lender s).entries) is ∙ same) c.put.ensures.err
 
 -- a set with the number alone stands under the hash
 pub returns-clause-ok : goal.returns-clause-ok

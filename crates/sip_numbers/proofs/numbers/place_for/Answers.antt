@@ -1,21 +1,13 @@
-use Rattle.std.proofs.Common.{◌≡◌, ◌-◌, ◌<◌, length, rules, subst, arith}
+use Rattle.std.proofs.Common.{◌≡◌, rules, subst}
 use Rattle.std.proofs.lemmas.List.Sorted.{answers_always}
-use Rattle.sip_numbers.proofs.PlaceLemmas.{place-past, place-of, searched}
+use Rattle.sip_numbers.proofs.PlaceLemmas.{place-of, searched}
 use Rattle.sip_numbers.proofs.numbers.place_for.Goals as goal
 
--- all words are of lesser blocks
+-- the word that the first one tells is of the block
 pub returns-in-Some : goal.returns-in-Some
 returns-in-Some c =
-    let item = c.in-Some.ensures.item in
-    place-past c.args.block c.requires item.3.0 (λ d. subst (λ word. word.block < c.args.block) (item.3.1 d) c.if-last-block.true)
-
--- the last word is of the block
-pub returns-in-Some-2 : goal.returns-in-Some-2
-returns-in-Some-2 c =
-    let item = c.in-Some.ensures.item in
-    let some = item.3.0 in
-    place-of c.args.block c.requires {at = length c.args.words.now - 1} (omega arith)
-    (λ d. subst (λ word. word.block ≡ c.args.block) (item.3.1 d) c.if-last-block-2.true)
+    let item = c.in-Some.ensures.lookup.3 in
+    place-of c.args.block c.requires item.0 (λ d. subst (λ word. word.block ≡ c.args.block) (item.1 d) c.if-word-block.true)
 
 -- the search finds it: each call of the closure answers the block of a word
 pub returns-in_default : goal.returns-in_default

@@ -1,4 +1,4 @@
-use Rattle.sip_machine.proofs.Words.{◌∙◌, ap, get_or, sym, IfOk-weaker, solid, owed_in, text_of, HasTo, PaysDebt, says-no_fault, ◌≡◌, ◌↔◌, ℕ, Bool, false, IsTrue, List, true≢false, Reading, Reads, Said, said_of, says-reads, AckOf, IsAckOf, SameSolid, ack-of_says, IsToOf}
+use Rattle.sip_machine.proofs.Words.{◌∙◌, ap, get_or, sym, IfOk-weaker, solid, owed_in, text_of, HasTo, PaysFor, says-no_fault, ◌≡◌, ◌↔◌, ℕ, Bool, false, IsTrue, List, true≢false, Reading, Reads, Said, said_of, says-reads, AckOf, IsAckOf, SameSolid, ack-of_says, IsToOf}
 use Rattle.sip_machine.proofs.acks.HolderLemmas.{FindsFirst-same}
 use Rattle.sip_machine.proofs.invite_client.acks.first_acked.Goals as goal
 
@@ -59,7 +59,7 @@ returns-clause-finds c =
     -- `to` says that the To that is looked for is that of the ACK, without its blanks
     let to = c.of-to.ensures ∙ c.in_ok-to.ensures ∙ ap solid c.to.ensures in
     IfOk-weaker c.first_with_to.result _ _ (λ index finds.
-    FindsFirst-same (HasTo texts c.of-to.result t) (PaysDebt texts ack invite t) t (owed_in c.args.dues.now c.args.row) index (λ k d low.
+    FindsFirst-same (HasTo texts c.of-to.result t) (PaysFor (AckOf ack invite) texts t) t (owed_in c.args.dues.now c.args.row) index (λ k d low.
     -- an ACK with the To of the response belongs to it exactly if it is one for the INVITE
     let response = text_of texts (get_or (owed_in c.args.dues.now c.args.row) k d).message in
     let by_to = AckOf-by_to ack invite response c.in-Some.ack c.in-Some-2.invite c.is_ack_for.result

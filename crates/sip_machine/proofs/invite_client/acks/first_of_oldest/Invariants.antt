@@ -1,6 +1,6 @@
 use Rattle.std.specs.Prelude.{All, take}
 use Rattle.sip_machine.specs.Owes.{owed_in}
-use Rattle.sip_machine.specs.inner.Acks.{HasTo}
+use Rattle.sip_machine.specs.inner.Paying.{HasTo}
 use Rattle.sip_machine.proofs.invite_client.acks.first_of_oldest.Given as goal
 
 -- none of the debts before the index is of a message that has the To, or its deadline has passed

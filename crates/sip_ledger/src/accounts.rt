@@ -14,10 +14,11 @@ mod left;
 mod moved;
 mod named;
 mod places;
+mod queue;
 mod strikes;
 
 use crate::accounts::account::{
-    Account, EMPTY, debt_for, earliest_must, expired, find, find_first, first_debts,
+    Account, EMPTY, debt_for, earliest_must, expired, find, find_first, find_led, first_debts,
     gained_and_expired, paid_and_expired, place_for, same,
 };
 use crate::accounts::gains::{Gains, Seek, drop_first};
@@ -51,6 +52,9 @@ impl Model for Accounts {
 
     ghost invariant = { λ a. AreAccounts a.gains a.strikes.items a.rows.items };
 }
+
+/// How many of some messages are gone through before they stand in a queue.
+const FEW: usize = 8;
 
 #[tactic(auto, using(crate::proofs::rows::SeenLemmas::of_rows))]
 impl Accounts {
@@ -142,25 +146,33 @@ impl Accounts {
         find(gains, strikes, account, &mut seek, message, moment).is_some()
     }
 
-    /// The message of the row's first debt that a send of one of these messages pays at the moment, if there is one. Where that
-    /// is not told by a look at `most` of them, the answer is None. It is told where they are fewer than `most`.
+    /// The message of the row's first debt that a send of one of these messages pays at the moment, if there is one. The key is a number for what these
+    /// messages have in common: where it is asked with the same key again, less is looked at. What rows owe stays, also on an error.
     pub fn first_payable(
-        &self,
+        &mut self,
         row: usize,
+        key: u64,
         messages: &Numbers,
         moment: u64,
-        most: usize,
-    ) -> Option<Option<u64>>
-        requires { row < length self.now }
-        ensures first { IfSome result (IsFirstPaid (PaysSome (numbers_of messages.now) moment) moment (owed_in self.now row)) }
-        ensures told { IfNone result (HasMany (numbers_of messages.now) most) }
+    ) -> Result<Option<u64>, AllocError>
+        requires { row < length self.old }
+        ensures same { self.new ≡ self.old }
+        ensures first { IfOk result (IsFirstPaid (PaysSome (numbers_of messages.now) moment) moment (owed_in self.old row)) }
     {
         let account = self.rows[row];
-        let (gains, strikes) = (&self.gains, &self.strikes);
-        let found = find_first(gains, strikes, account, messages, moment, most)?;
+        let few = find_first(&self.gains, &self.strikes, account, messages, moment, FEW);
+        let found = match few {
+            Some(found) => found,
+            None => {
+                let alloc = *self.strikes.allocator();
+                let led = self.gains.messages.first_among(alloc, key, messages)?;
+                // No memory has room for as many messages as a number can count.
+                find_led(&self.gains, &self.strikes, account, messages, moment, led).ok_or(AllocError)?
+            }
+        };
         match found {
-            Some(place) => Some(Some(self.gains.entry(place).message)),
-            None => Some(None),
+            Some(place) => Ok(Some(self.gains.entry(place).message)),
+            None => Ok(None),
         }
     }
 

@@ -1,5 +1,6 @@
 //! Sets of numbers.
-ghost use Rattle.std.specs.Prelude.{◌≡◌, ◌==◌, ◌<◌, ◌≤◌, ◌+◌, ◌^◌, ℕ, cond, true, false, IfSome, IfNone, OnOk, OnErr, MatchResult};
+ghost use Rattle.std.specs.Prelude.{◌≡◌, ◌==◌, ◌&&◌, ◌<◌, ◌≤◌, ◌+◌, ◌/◌, ◌%◌, ◌^◌, ℕ, cond, not, true, false, IfSome, IfNone, OnOk, OnErr, MatchResult};
+ghost use Rattle.sip_masks.specs.Bits.{test};
 ghost use Rattle.sip_numbers.specs.Numbers.{IsFirstInBoth, NoneInBoth, has_bit, numbers_of};
 ghost use Rattle.sip_numbers.specs.inner.Numbers.{AreWords, IsFirstOf, IsPlaceFor};
 
@@ -79,25 +80,53 @@ impl Numbers {
     }
 
     /// The first number from `from` on that is in both sets.
-    #[tactic(auto, using(crate::proofs::BothLemmas::turns))]
     pub fn next_in_both(&self, other: &Numbers, from: u64) -> Option<u64>
         ensures found { IfSome result (IsFirstInBoth (numbers_of self.now) (numbers_of other.now) from) }
         ensures none { IfNone result (NoneInBoth (numbers_of self.now) (numbers_of other.now) from) }
     {
-        let (Ok(start) | Err(start)) = place_for(&self.words, from / 64);
-        for at in start..self.words.len() {
-            let word = self.words[at];
-            if let Ok(beside) = place_for(&other.words, word.block) {
-                let both = Word {
-                    block: word.block,
-                    bits: word.bits & other.words[beside].bits,
-                };
-                if let Some(number) = first_from(both, from) {
-                    return Some(number);
-                }
-            }
+        next_but(&self.words, &other.words, &[], from)
+    }
+
+    /// The first number from `from` on that is in both sets, and not in a third one.
+    pub fn next_in_both_but(&self, other: &Numbers, but: &Numbers, from: u64) -> Option<u64>
+        ensures found { IfSome result (IsFirstInBoth (numbers_of self.now) (λ n. numbers_of other.now n && not (numbers_of but.now n)) from) }
+        ensures none { IfNone result (NoneInBoth (numbers_of self.now) (λ n. numbers_of other.now n && not (numbers_of but.now n)) from) }
+    {
+        next_but(&self.words, &other.words, &but.words, from)
+    }
+}
+
+/// The first number from `from` on that the first two sets have, and the third has not.
+#[tactic(auto, using(crate::proofs::BothLemmas::turns))]
+fn next_but(words: &[Word], other: &[Word], but: &[Word], from: u64) -> Option<u64>
+    requires words { AreWords words.now }
+    requires other { AreWords other.now }
+    requires but { AreWords but.now }
+    ensures found { IfSome result (IsFirstInBoth (numbers_of words.now) (λ n. numbers_of other.now n && not (numbers_of but.now n)) from) }
+    ensures none { IfNone result (NoneInBoth (numbers_of words.now) (λ n. numbers_of other.now n && not (numbers_of but.now n)) from) }
+{
+    let (Ok(start) | Err(start)) = place_for(words, from / 64);
+    for at in start..words.len() {
+        let word = words[at];
+        let left = Word {
+            block: word.block,
+            bits: word.bits & bits_of(other, word.block) & !bits_of(but, word.block),
+        };
+        if let Some(number) = first_from(left, from) {
+            return Some(number);
         }
-        None
+    }
+    None
+}
+
+/// The bits of the word of this block. None of them is set where there is no such word.
+fn bits_of(words: &[Word], block: u64) -> u64
+    requires { AreWords words.now }
+    ensures { (n : ℕ) → n / 64 ≡ block → test result (n % 64) ≡ numbers_of words.now n }
+{
+    match place_for(words, block) {
+        Ok(at) => words[at].bits,
+        Err(_) => 0,
     }
 }
 

@@ -1,6 +1,6 @@
 //! What one row owes of what was gained.
 ghost use Rattle.std.specs.Prelude.{◌≡◌, ◌≢◌, ◌↔◌, ◌<◌, ◌≤◌, ◌*◌, ◌%◌, ◌^◌, ◌++◌, ◌∷◌, ◌+◌};
-ghost use Rattle.sip_ledger.specs.inner.Words.{[], ℕ, Bool, true, false, Some, IfOk, IfSome, IfNone, IsTrue, OnOk, OnErr, bit_xor, filter, length, option_to_list, take, OnTrue, counts_at, debt_deadlines, earliest, is_timely, paid_by, worth_of, debt_of, Account, AreGains, IsAccount, IsAfter, IsExpiredTo, IsFirstPaying, IsFirstPayable, IsGainAt, IsUndropped, IsNextGain, IsSeek, IsWithout, KeepsAccounts, SharesNext, account_debts, entries_of, entry_at, is_struck, must_at, owes_at, pays_at, softened_account, sooner, strikes_of, HasMany, numbers_of};
+ghost use Rattle.sip_ledger.specs.inner.Words.{[], ℕ, Bool, true, false, Some, IfOk, IfSome, IfNone, IsTrue, OnOk, OnErr, bit_xor, filter, length, option_to_list, take, OnTrue, counts_at, debt_deadlines, earliest, is_timely, paid_by, worth_of, debt_of, Account, AreGains, IsAccount, IsAfter, IsExpiredTo, IsFirstHeld, IsFirstPaying, IsFirstPayable, IsGainAt, IsUndropped, IsNextGain, IsSeek, IsWithout, KeepsAccounts, SharesNext, account_debts, entries_of, entry_at, is_struck, must_at, owes_at, pays_at, softened_account, sooner, strikes_of, numbers_of};
 
 use crate::accounts::gains::{Gains, Seek};
 use crate::accounts::strikes::{Strike, Strikes, are_same, first_alone, put, struck_to};
@@ -190,8 +190,7 @@ pub(crate) fn find_first(
 ) -> Option<Option<usize>>
     requires gained { AreGains gains.now }
     requires account { IsAccount gains.now strikes.now account }
-    ensures first { IfSome result (IsFirstPaying (entries_of gains.now) (owes_at gains.now strikes.now account) (numbers_of messages.now) moment) }
-    ensures told { IfNone result (HasMany (numbers_of messages.now) most) }
+    ensures { IfSome result (IsFirstPaying (entries_of gains.now) (owes_at gains.now strikes.now account) (numbers_of messages.now) moment) }
 {
     let mut first = None;
     let mut from = 0;
@@ -213,6 +212,33 @@ pub(crate) fn find_first(
         from = message + 1;
     }
     None
+}
+
+/// What `find_first` finds, where it may be known at which place one of the messages is left first of all, and which message that is.
+#[tactic(auto, using(crate::proofs::account::FindLemmas::found_of_some))]
+pub(crate) fn find_led(
+    gains: &Gains,
+    strikes: &[Strike],
+    account: Account,
+    messages: &Numbers,
+    moment: u64,
+    led: Option<(u64, u64)>,
+) -> Option<Option<usize>>
+    requires gained { AreGains gains.now }
+    requires account { IsAccount gains.now strikes.now account }
+    requires led { IfSome led (IsFirstHeld gains.now.messages (numbers_of messages.now)) }
+    ensures { IfSome result (IsFirstPaying (entries_of gains.now) (owes_at gains.now strikes.now account) (numbers_of messages.now) moment) }
+{
+    if let Some((place, message)) = led {
+        let place = place as usize;
+        if owes(gains, strikes, account, place)
+            && moment <= gains.entry(place).deadline
+            && messages.next_in_both(messages, message) == Some(message)
+        {
+            return Some(Some(place));
+        }
+    }
+    find_first(gains, strikes, account, messages, moment, usize::MAX)
 }
 
 /// The lesser of two places, where there are some.

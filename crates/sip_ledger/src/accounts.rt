@@ -4,7 +4,7 @@ ghost use Rattle.std.specs.List.{list_any};
 ghost use Rattle.sip_ledger.specs.Accounts.{owed_in, AppendsOwed};
 ghost use Rattle.sip_ledger.specs.Debts.{IsFirstPaid, PaysSome, counts_at, softened_debt, is_payable, debt_deadlines, earliest, paid_by};
 ghost use Rattle.sip_numbers.specs.Numbers.{numbers_of};
-ghost use Rattle.sip_ledger.specs.Lists.{HasMany, Rise};
+ghost use Rattle.sip_ledger.specs.Lists.{Rise};
 ghost use Rattle.sip_ledger.specs.Runs.{AreRuns};
 
 mod account;
@@ -18,7 +18,7 @@ mod queue;
 mod strikes;
 
 use crate::accounts::account::{
-    Account, EMPTY, debt_for, earliest_must, expired, find, find_first, find_led, first_debts,
+    Account, EMPTY, debt_for, earliest_must, expired, find, find_some, first_debts,
     gained_and_expired, paid_and_expired, place_for, same,
 };
 use crate::accounts::gains::{Gains, Seek, drop_first};
@@ -52,9 +52,6 @@ impl Model for Accounts {
 
     ghost invariant = { λ a. AreAccounts a.gains a.strikes.items a.rows.items };
 }
-
-/// How many of some messages are gone through before they stand in a queue.
-const FEW: usize = 8;
 
 #[tactic(auto, using(crate::proofs::rows::SeenLemmas::of_rows))]
 impl Accounts {
@@ -160,16 +157,7 @@ impl Accounts {
         ensures first { IfOk result (IsFirstPaid (PaysSome (numbers_of messages.now) moment) moment (owed_in self.old row)) }
     {
         let account = self.rows[row];
-        let few = find_first(&self.gains, &self.strikes, account, messages, moment, FEW);
-        let found = match few {
-            Some(found) => found,
-            None => {
-                let alloc = *self.strikes.allocator();
-                let led = self.gains.messages.first_among(alloc, key, messages)?;
-                // No memory has room for as many messages as a number can count.
-                find_led(&self.gains, &self.strikes, account, messages, moment, led).ok_or(AllocError)?
-            }
-        };
+        let found = find_some(&mut self.gains, &self.strikes, account, key, messages, moment)?;
         match found {
             Some(place) => Ok(Some(self.gains.entry(place).message)),
             None => Ok(None),

@@ -49,11 +49,11 @@ Stands queue m = (b : ℕ) × (holds queue b m ≡ true)
 pub record IsQueue (pairs : List (ℕ × ℕ)) (end : ℕ) (queue : List (ℕ × ℕ)) : Type 0 where
   pub low : (b m k : ℕ) → holds queue b m ≡ true → holds pairs m k ≡ true → b ≤ k
   pub within : (b m : ℕ) → holds queue b m ≡ true → b < end
-  pub end : (m k : ℕ) → holds pairs m k ≡ true → k < end
+  pub below : (m k : ℕ) → holds pairs m k ≡ true → k < end
 
 -- no place is the end or a later one, and what stands under each key is a queue
 pub record AreQueues (pairs : List (ℕ × ℕ)) (end : ℕ) (queues : BTreeMap ℕ (List (ℕ × ℕ))) : Type 0 where
-  pub end : (m k : ℕ) → holds pairs m k ≡ true → k < end
+  pub below : (m k : ℕ) → holds pairs m k ≡ true → k < end
   pub each : (key : ℕ) → IfSome (lookup (is_at (nat_cmp key)) queues.entries) (IsQueue pairs end)
 
 -- each message that passes the test and is left stands in the queue

@@ -11,7 +11,7 @@ pub use Rattle.sip_ledger.specs.Accounts.{AppendsOwed, owed_in, owes_message, pa
 unfoldable pub use Rattle.sip_ledger.specs.Accounts.{debts_print, worth_of}
 pub use Rattle.sip_ledger.specs.Debts.{IsFirstPaid, PaysSome, counts_at, debt_deadlines, earliest, is_payable, is_timely, paid_by, softened_debt}
 pub use Rattle.sip_ledger.specs.Entries.{IsGap, debt_of, debts_from}
-pub use Rattle.sip_ledger.specs.Lists.{HasMany, Rise, from_to}
+pub use Rattle.sip_ledger.specs.Lists.{Rise, from_to}
 pub use Rattle.sip_ledger.specs.Runs.{AreRuns, debts_in}
 pub use Rattle.sip_ledger.specs.declared.accounts.account.Account.{Account}
 pub use Rattle.sip_ledger.specs.declared.accounts.gains.Flags.{Flags}

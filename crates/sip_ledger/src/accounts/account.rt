@@ -25,6 +25,9 @@ pub(crate) struct Account {
 /// An account that was made of another one, if there was memory for it.
 pub(crate) type Made = Result<Account, AllocError>;
 
+/// How many of some messages are gone through before they stand in a queue.
+const FEW: usize = 8;
+
 /// Nothing is owed.
 pub(crate) const EMPTY: Account = Account {
     start: 0,
@@ -214,31 +217,36 @@ pub(crate) fn find_first(
     None
 }
 
-/// What `find_first` finds, where it may be known at which place one of the messages is left first of all, and which message that is.
-#[tactic(auto, using(crate::proofs::account::FindLemmas::found_of_some))]
-pub(crate) fn find_led(
-    gains: &Gains,
+/// What `find_first` finds, however many the messages are. Where they are more than a few, it is asked first at which place of all one of them is left
+/// first: for the same key, those that were left the last time are not gone through again.
+pub(crate) fn find_some(
+    gains: &mut Gains,
     strikes: &[Strike],
     account: Account,
+    key: u64,
     messages: &Numbers,
     moment: u64,
-    led: Option<(u64, u64)>,
-) -> Option<Option<usize>>
-    requires gained { AreGains gains.now }
-    requires account { IsAccount gains.now strikes.now account }
-    requires led { IfSome led (IsFirstHeld gains.now.messages (numbers_of messages.now)) }
-    ensures { IfSome result (IsFirstPaying (entries_of gains.now) (owes_at gains.now strikes.now account) (numbers_of messages.now) moment) }
+) -> Result<Option<usize>, AllocError>
+    requires gained { AreGains gains.old }
+    requires account { IsAccount gains.old strikes.now account }
+    ensures same { gains.new ≡ gains.old }
+    ensures first { IfOk result (IsFirstPaying (entries_of gains.old) (owes_at gains.old strikes.now account) (numbers_of messages.now) moment) }
 {
-    if let Some((place, message)) = led {
+    if let Some(found) = find_first(gains, strikes, account, messages, moment, FEW) {
+        return Ok(found);
+    }
+    let alloc = *gains.entries.allocator();
+    if let Some((place, message)) = gains.messages.first_among(alloc, key, messages)? {
         let place = place as usize;
         if owes(gains, strikes, account, place)
             && moment <= gains.entry(place).deadline
             && messages.next_in_both(messages, message) == Some(message)
         {
-            return Some(Some(place));
+            return Ok(Some(place));
         }
     }
-    find_first(gains, strikes, account, messages, moment, usize::MAX)
+    // No memory has room for as many messages as a number can count.
+    find_first(gains, strikes, account, messages, moment, usize::MAX).ok_or(AllocError)
 }
 
 /// The lesser of two places, where there are some.

@@ -24,7 +24,6 @@ pub(crate) struct Places {
 
 impl Model for Places {
     ghost use Rattle.std.specs.Prelude.{ℕ, List};
-    ghost use Rattle.std.specs.Prelude.{◌×◌};
     ghost use Rattle.sip_ledger.specs.inner.Places.{ArePlaces, AreQueues};
 
     ghost Value = { List (ℕ × ℕ) };
@@ -56,15 +55,15 @@ impl Places {
         ensures ok { OnOk result ((m k : ℕ) → holds self.new m k ≡ cond (m == message && k == place) true (holds self.old m k)) }
         ensures err { OnErr result (self.new ≡ self.old) }
     {
+        let end = place.checked_add(1).ok_or(AllocError)?;
         self.messages.put(message)?;
         self.places.put(place)?;
         let _added = self.pairs.insert((message, place))?;
-        // A message of a queue may be left again here, which is not before its place in the queue.
+        // A message of a queue is not left before its place there. A new place that is not after all others may be before that one.
         if place < self.end {
             self.queues.clear();
-        } else {
-            self.end = place + 1;
         }
+        self.end = self.end.max(end);
         Ok(())
     }
 
@@ -124,12 +123,8 @@ impl Places {
         ensures same { self.new ≡ self.old }
         ensures first { IfOk result (λ found. IfSome found (IsFirstHeld self.old (numbers_of messages.now))) }
     {
-        let mut queue = match self.queues.remove(&key) {
-            Some(queue) => queue,
-            None => Queue::new(alloc),
-        };
-        self.gather(messages, &mut queue)?;
-        let first = self.settle(&mut queue)?;
+        let mut queue = self.queues.remove(&key).unwrap_or(Queue::new(alloc));
+        let first = self.head(messages, &mut queue)?;
         if first.is_some() {
             let _old = self.queues.insert(key, queue)?;
         }
@@ -155,12 +150,17 @@ impl Places {
         Err(AllocError)
     }
 
-    /// The first pair of the queue, after those whose message is not left any more went, and those whose message is left at a later place alone were put there.
-    fn settle(&self, queue: &mut Queue) -> Result<Option<(u64, u64)>, AllocError>
-        ensures queue { (end : ℕ) → IsQueue self.now end queue.old → IfOk result (λ _. IsQueue self.now end queue.new) }
-        ensures all { (test : ℕ → Bool) → HasLeft self.now queue.old test → OnOk result (HasLeft self.now queue.new test) }
-        ensures first { IfOk result (λ found. IfSome found (λ pair. (holds self.now pair.1 pair.0 ≡ true) × ((b m : ℕ) → holds queue.new b m ≡ true → pair.0 ≤ b))) }
+    /// The first pair of the queue whose message is left at its place, after those of the messages that are left are there. A pair before it goes, and comes
+    /// again at the first place at which its message is left.
+    fn head(
+        &self,
+        messages: &Numbers,
+        queue: &mut Queue,
+    ) -> Result<Option<(u64, u64)>, AllocError>
+        ensures queue { (end : ℕ) → IsQueue self.now end queue.old → OnOk result (IsQueue self.now end queue.new) }
+        ensures first { (end : ℕ) → IsQueue self.now end queue.old → IfOk result (λ found. IfSome found (IsFirstHeld self.now (numbers_of messages.now))) }
     {
+        self.gather(messages, queue)?;
         for _turn in 0..usize::MAX {
             let Some((place, message)) = queue.first() else {
                 return Ok(None);

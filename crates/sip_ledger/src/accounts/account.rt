@@ -26,7 +26,7 @@ pub(crate) struct Account {
 pub(crate) type Made = Result<Account, AllocError>;
 
 /// How many of some messages are gone through before they stand in a queue.
-const FEW: usize = 8;
+const FEW: usize = 1;
 
 /// Nothing is owed.
 pub(crate) const EMPTY: Account = Account {

@@ -78,6 +78,10 @@ impl Places {
         if self.next(message, 0).is_none() {
             self.messages.take(message);
         }
+        // Where nothing is left, no queue is kept.
+        if self.pairs.is_empty() {
+            self.queues.clear();
+        }
     }
 
     /// The first pair from this message and place on, in the order of messages and then of places.

@@ -1,34 +1,20 @@
 -- Numbers that one set has, that another has too, and that a third has not.
 use Rattle.std.proofs.Common.{◌≡◌, ℕ, ◌+◌, ◌-◌, ◌/◌, ◌%◌, ◌^◌, ◌<◌, ◌≤◌, Bool, true, false, not, ◌&&◌, List, length, take, get_or, bit_and, sym, ap, ◌∙◌, arith, w64}
-use Rattle.std.proofs.lemmas.Bool.{and_parts, false≢true}
+use Rattle.std.proofs.lemmas.Bool.{and_parts}
 use Rattle.std.proofs.lemmas.Bool.Decides.{nat_tests}
-use Rattle.std.proofs.lemmas.List.{get_or_default, take_all}
+use Rattle.std.proofs.lemmas.List.{get_or_default}
 use Rattle.std.proofs.lemmas.List.Folds.{list_any_at, list_any_more}
 use Rattle.std.proofs.lemmas.Nat.Bits.{bit_at-lt, bit_at_not}
 use Rattle.sip_masks.specs.Bits.{test}
 use Rattle.sip_masks.proofs.BitLemmas.{test-and}
 use Rattle.sip_numbers.specs.Numbers.{IsFirstInBoth, NoneInBoth, has_bit, numbers_of}
 use Rattle.sip_numbers.specs.declared.numbers.Word.{Word}
-use Rattle.sip_numbers.specs.inner.Numbers.{AreWords, IsFirstOf, IsPlaceFor}
-use Rattle.sip_numbers.proofs.PlaceLemmas.{front, place-of, up-to}
+use Rattle.sip_numbers.specs.inner.Numbers.{AreWords, IsFirstOf}
+use Rattle.sip_numbers.proofs.PlaceLemmas.{place-of, up-to}
 
 -- whether the second set has the number, and the third has not
 abbrev pub wanted : List Word → List Word → ℕ → Bool
 wanted other but n = numbers_of other n && not (numbers_of but n)
-
--- the words before `at` have no wanted number from `from` on
-pub record ArePassed (words other but : List Word) (from at : ℕ) : Type 0 where
-  pub none : (n : ℕ) → from ≤ n → wanted other but n ≡ true → numbers_of (take at words) n ≡ false
-
--- the words before the place of the block of `from` are passed
-pub at-first : {words other but : List Word} {from at next : ℕ} → IsPlaceFor words (from / 64) at next → ArePassed words other but from at
-at-first place = record { none = λ n after _. front place n (omega (arith, after)) }
-
--- after the last word no number is left
-pub none_left : {words other but : List Word} {from at : ℕ} → ArePassed words other but from at → length words ≤ at →
-    NoneInBoth (numbers_of words) (wanted other but) from
-none_left {words} {at = at} passed short n after has is_wanted =
-    false≢true (sym (passed.none n after is_wanted) ∙ ap (λ ws. numbers_of ws n) (take_all at words short) ∙ has)
 
 -- a bit that is turned is set where it was not
 test-not : (bits i : ℕ) → bits < 2 ^ 64 → i < 64 → test (18446744073709551615 - bits) i ≡ not (test bits i)
@@ -39,8 +25,9 @@ test-not bits i small below = grind (arith, nat_tests, bit_at_not w64 bits i, bi
 abbrev left_of : Word → ℕ → ℕ → Word
 left_of word its out = record { block = word.block; bits = bit_and (bit_and word.bits its) (18446744073709551615 - out) }
 
--- What follows is of the word at `at`, and of the bits of its block in the other sets.
-module _ {words other but : List Word} {from at : ℕ} {word : Word} (d : Word) (its out : ℕ) (passed : ArePassed words other but from at)
+-- What follows is of the word at `at`, where no wanted number is in those before it, and of the bits of its block in the other sets.
+module _ (words other but : List Word) (from at : ℕ) {word : Word} (d : Word) (its out : ℕ)
+    (passed : NoneInBoth (numbers_of (take at words)) (wanted other but) from)
     (within : at < length words) (is : word ≡ get_or words at d) (small : out < 2 ^ 64)
     (tells : (n : ℕ) → n / 64 ≡ word.block → test its (n % 64) ≡ numbers_of other n)
     (tells_out : (n : ℕ) → n / 64 ≡ word.block → test out (n % 64) ≡ numbers_of but n) where
@@ -52,15 +39,14 @@ module _ {words other but : List Word} {from at : ℕ} {word : Word} (d : Word) 
       grind (arith, nat_tests, both, all, test-not out (n % 64) small, tells n, tells_out n)
 
   -- no word up to this one has a wanted number that is none of these
-  more : (n : ℕ) → from ≤ n → wanted other but n ≡ true → has_bit n (left_of word its out) ≡ false → numbers_of (take (at + 1) words) n ≡ false
+  more : (n : ℕ) → from ≤ n → has_bit n (left_of word its out) ≡ false → numbers_of (take (at + 1) words) n ≡ true → ¬ (wanted other but n ≡ true)
   unfolding numbers_of
-  more n after is_wanted none =
-      let not_it : has_bit n word ≡ false = grind (arith, has-left n, is_wanted, none) in
-      list_any_more (has_bit n) words at d within ∙ rw (passed.none n after is_wanted, ← is) not_it
+  more n after none has is_wanted =
+      grind (arith, nat_tests, has-left n, none, is_wanted, passed n after, ap (has_bit n) is, sym (list_any_more (has_bit n) words at d within) ∙ has)
 
   -- where none of these is from `from` on, the word is passed
-  pub pass : ((n : ℕ) → from ≤ n → has_bit n (left_of word its out) ≡ false) → ArePassed words other but from (at + 1)
-  pass none = record { none = λ n after is_wanted. more n after is_wanted (none n after) }
+  pub pass : ((n : ℕ) → from ≤ n → has_bit n (left_of word its out) ≡ false) → NoneInBoth (numbers_of (take (at + 1) words)) (wanted other but) from
+  pass none n after = more n after (none n after)
 
   -- the first of these is the first wanted number
   pub first-left : {number : ℕ} → AreWords words → IsFirstOf (left_of word its out) from number →
@@ -69,12 +55,11 @@ module _ {words other but : List Word} {from at : ℕ} {word : Word} (d : Word) 
   first-left {number} in_order first =
       let has = and_parts (has_bit number word) (wanted other but number) (sym (has-left number) ∙ first.is) in
       let block : word.block ≡ number / 64 = grind (arith, nat_tests, has.0) in
+      let place = place-of word.block in_order within (λ e. ap (λ (w : Word). w.block) (get_or_default words at e d within ∙ sym is)) in
       record {
         in_one = list_any_at (has_bit number) words at d within (ap (has_bit number) (sym is) ∙ has.0);
         in_other = has.1;
         after = first.after;
-        none_before = λ n after before has is_wanted.
-            let place = place-of word.block in_order within (λ e. ap (λ (w : Word). w.block) (get_or_default words at e d within ∙ sym is)) in
-            let none = first.none_before n after before in
-            false≢true (sym (up-to place n (omega (arith, before, block)) ∙ more n after is_wanted none) ∙ has);
+        none_before = λ n after before has.
+            more n after (first.none_before n after before) (sym (up-to place n (omega (arith, before, block))) ∙ has);
       }

@@ -16,11 +16,6 @@ use Rattle.sip_numbers.proofs.PlaceLemmas.{place-of, up-to}
 abbrev pub wanted : List Word → List Word → ℕ → Bool
 wanted other but n = numbers_of other n && not (numbers_of but n)
 
--- a bit that is turned is set where it was not
-test-not : (bits i : ℕ) → bits < 2 ^ 64 → i < 64 → test (18446744073709551615 - bits) i ≡ not (test bits i)
-unfolding test
-test-not bits i small below = grind (arith, nat_tests, bit_at_not w64 bits i, bit_at-lt bits i)
-
 -- the word without the bits that `its` has not, and without those that `out` has
 abbrev left_of : Word → ℕ → ℕ → Word
 left_of word its out = record { block = word.block; bits = bit_and (bit_and word.bits its) (18446744073709551615 - out) }
@@ -33,20 +28,17 @@ module _ (words other but : List Word) (from at : ℕ) {word : Word} (d : Word) 
     (tells_out : (n : ℕ) → n / 64 ≡ word.block → test out (n % 64) ≡ numbers_of but n) where
   -- the wanted numbers of the word are those whose bits are left
   has-left : (n : ℕ) → has_bit n (left_of word its out) ≡ (has_bit n word && wanted other but n)
+  unfolding test
   has-left n =
       let both = test-and word.bits its (n % 64) in
       let all = test-and (bit_and word.bits its) (18446744073709551615 - out) (n % 64) in
-      grind (arith, nat_tests, both, all, test-not out (n % 64) small, tells n, tells_out n)
+      grind (arith, nat_tests, both, all, bit_at_not w64 out (n % 64) small, bit_at-lt out (n % 64), tells n, tells_out n)
 
   -- no word up to this one has a wanted number that is none of these
-  more : (n : ℕ) → from ≤ n → has_bit n (left_of word its out) ≡ false → numbers_of (take (at + 1) words) n ≡ true → ¬ (wanted other but n ≡ true)
+  pub more : (n : ℕ) → from ≤ n → has_bit n (left_of word its out) ≡ false → numbers_of (take (at + 1) words) n ≡ true → ¬ (wanted other but n ≡ true)
   unfolding numbers_of
   more n after none has is_wanted =
       grind (arith, nat_tests, has-left n, none, is_wanted, passed n after, ap (has_bit n) is, sym (list_any_more (has_bit n) words at d within) ∙ has)
-
-  -- where none of these is from `from` on, the word is passed
-  pub pass : ((n : ℕ) → from ≤ n → has_bit n (left_of word its out) ≡ false) → NoneInBoth (numbers_of (take (at + 1) words)) (wanted other but) from
-  pass none n after = more n after (none n after)
 
   -- the first of these is the first wanted number
   pub first-left : {number : ℕ} → AreWords words → IsFirstOf (left_of word its out) from number →

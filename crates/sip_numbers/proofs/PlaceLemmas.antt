@@ -104,9 +104,7 @@ module _ (number : ℕ) {words : List Word} {at : ℕ} (place : IsPlaceFor words
 
   -- the number is not there
   pub take-none : Changes number false (numbers_of words) (numbers_of words)
-  unfolding numbers_of
-  take-none = subst (λ ws. Changes number false (numbers_of words) (numbers_of ws)) (take-append-drop at words)
-      (changed number place false [] [] (take-append-drop at words) (λ n. grind (arith, nat_tests)))
+  take-none n = grind (arith, nat_tests, up-to place number (omega arith), front place number (omega arith))
 
 -- What follows is of the word of the block, and of bits that differ from its bits at most at the place of the number.
 module _ (number : ℕ) {words : List Word} {at : ℕ} (place : IsPlaceFor words (number / 64) at (at + 1)) (word : Word) (read : word ≡ get_or words at word)

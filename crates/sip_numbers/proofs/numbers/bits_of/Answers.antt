@@ -1,4 +1,4 @@
-use Rattle.std.proofs.Common.{◌%◌, ◌∙◌, get_or, refl, sym, arith}
+use Rattle.std.proofs.Common.{◌%◌, ◌∙◌, refl, sym, arith}
 use Rattle.std.proofs.lemmas.List.Folds.{list_any_more}
 use Rattle.sip_masks.proofs.RunLemmas.{none-set}
 use Rattle.sip_numbers.specs.Numbers.{has_bit, numbers_of}
@@ -13,10 +13,9 @@ unfolding numbers_of
 returns-in-Ok c n same =
     let place = c.in-Ok.ensures in
     let none : Word = record { block = 0; bits = 0 } in
-    let word = get_or c.args.words.now c.in-Ok.at none in
     sym (up-to place n (omega (arith, same))
     ∙ list_any_more (has_bit n) c.args.words.now c.in-Ok.at none (omega (arith, place.within))
-    ∙ rw (front place n (omega (arith, same))) (has-same n word (omega (arith, same, place.there c.in-Ok.at none (omega arith) (omega arith)))))
+    ∙ rw (front place n (omega (arith, same))) (has-same n _ (omega (arith, same, place.there c.in-Ok.at none (omega arith) (omega arith)))))
 
 -- no number of the block is there
 pub returns-in-Err : goal.returns-in-Err

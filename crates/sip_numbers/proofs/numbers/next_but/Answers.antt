@@ -1,6 +1,6 @@
 use Rattle.std.proofs.Common.{◌∙◌, arith, refl, sym}
 use Rattle.std.proofs.lemmas.Bool.{false≢true}
-use Rattle.sip_numbers.proofs.BothLemmas.{first-left, pass}
+use Rattle.sip_numbers.proofs.BothLemmas.{first-left, more}
 use Rattle.sip_numbers.proofs.PlaceLemmas.{front}
 use Rattle.sip_numbers.proofs.numbers.next_but.Goals as goal
 use Rattle.sip_numbers.proofs.numbers.next_but.Goals.{in-Ok, in-Ok-2}
@@ -20,5 +20,6 @@ returns-in-Some-clause-found c =
 
 -- where none is left, the word is passed
 pub loop-at-preserved : goal.loop-at-preserved
-loop-at-preserved c =
-    pass _ _ _ _ _ _ _ _ c.loop-at.invariant (omega arith) refl c.bits_of-in-loop-at.type_inv c.bits_of.ensures c.bits_of-in-loop-at.ensures c.in_default.ensures.none
+loop-at-preserved c n after =
+    more _ _ _ _ _ _ _ _ c.loop-at.invariant (omega arith) refl c.bits_of-in-loop-at.type_inv c.bits_of.ensures
+    c.bits_of-in-loop-at.ensures n after (c.in_default.ensures.none n after)

@@ -89,22 +89,16 @@ module _ (number : ℕ) {words : List Word} {at next : ℕ} (place : IsPlaceFor 
     | inr other ↦ rw (told n, ne_eqb n number other) (sym (parts old n) ∙ ap (λ ws. numbers_of ws n) split)
   ]
 
--- What follows is where no word is of the block.
-module _ (number : ℕ) {words : List Word} {at : ℕ} (place : IsPlaceFor words (number / 64) at at) where
-  -- with a word of the bit of the number alone, the number is there besides
-  pub put-new : Changes number true (numbers_of words)
-      (numbers_of (insert words at record { block = number / 64; bits = 1 * 2 ^ (number % 64) % 18446744073709551616 }))
-  unfolding numbers_of
-  put-new =
-      let new : Word = record { block = number / 64; bits = 1 * 2 ^ (number % 64) % 18446744073709551616 } in
-      let none : Word = record { block = number / 64; bits = 0 } in
-      changed number place true [] (new ∷ []) (take-append-drop at words) (λ n. simp or-false
-      (has-changed number n none new true refl refl (λ i below. test-put 0 (number % 64) i (omega arith))
-      ∙ ap (cond (n == number) true) (has-none n none refl)))
-
-  -- the number is not there
-  pub take-none : Changes number false (numbers_of words) (numbers_of words)
-  take-none n = grind (arith, nat_tests, up-to place number (omega arith), front place number (omega arith))
+-- where no word is of the block, and one is put in that has the bit of the number alone, the number is there besides
+pub put-new : (number : ℕ) {words : List Word} {at : ℕ} → IsPlaceFor words (number / 64) at at → Changes number true (numbers_of words)
+    (numbers_of (insert words at record { block = number / 64; bits = 1 * 2 ^ (number % 64) % 18446744073709551616 }))
+unfolding numbers_of
+put-new number {words} {at} place =
+    let new : Word = record { block = number / 64; bits = 1 * 2 ^ (number % 64) % 18446744073709551616 } in
+    let none : Word = record { block = number / 64; bits = 0 } in
+    changed number place true [] (new ∷ []) (take-append-drop at words) (λ n. simp or-false
+    (has-changed number n none new true refl refl (λ i below. test-put 0 (number % 64) i (omega arith))
+    ∙ ap (cond (n == number) true) (has-none n none refl)))
 
 -- What follows is of the word of the block, and of bits that differ from its bits at most at the place of the number.
 module _ (number : ℕ) {words : List Word} {at : ℕ} (place : IsPlaceFor words (number / 64) at (at + 1)) (word : Word) (read : word ≡ get_or words at word)

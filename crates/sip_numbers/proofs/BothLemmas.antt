@@ -29,10 +29,7 @@ module _ (words other but : List Word) (from at : ℕ) {word : Word} (d : Word) 
   -- the wanted numbers of the word are those whose bits are left
   has-left : (n : ℕ) → has_bit n (left_of word its out) ≡ (has_bit n word && wanted other but n)
   unfolding test
-  has-left n =
-      let both = test-and word.bits its (n % 64) in
-      let all = test-and (bit_and word.bits its) (18446744073709551615 - out) (n % 64) in
-      grind (arith, nat_tests, both, all, bit_at_not w64 out (n % 64) small, bit_at-lt out (n % 64), tells n, tells_out n)
+  has-left n = grind (arith, nat_tests, test-and, bit_at_not w64 out (n % 64) small, bit_at-lt out (n % 64), tells n, tells_out n)
 
   -- no word up to this one has a wanted number that is none of these
   pub more : (n : ℕ) → from ≤ n → has_bit n (left_of word its out) ≡ false → numbers_of (take (at + 1) words) n ≡ true → ¬ (wanted other but n ≡ true)

@@ -60,7 +60,7 @@ module _ {block : ℕ} {words : List Word} {at next : ℕ} (place : IsPlaceFor w
   back : n / 64 ≤ block → numbers_of (drop next words) n ≡ false
   back reached = none-has n (drop next words) (λ k d below is. grind (arith, elements, place.after (next + k) d))
 
-  -- so it is there if it is in the words before these
+  -- so where its block is this one or a lesser one, only the words before these can have it
   pub up-to : n / 64 ≤ block → numbers_of words n ≡ numbers_of (take next words) n
   unfolding numbers_of
   up-to reached =

@@ -1,5 +1,5 @@
 -- Words in order, after the word at a place is put in, changed or taken out.
-use Rattle.std.proofs.Common.{◌≡◌, ◌≢◌, ℕ, ◌+◌, ◌-◌, ◌*◌, ◌/◌, ◌%◌, ◌^◌, ◌<◌, Bool, true, false, cond, ◌==◌, ◌||◌, List, [], ◌∷◌, ◌++◌, length, take, drop, get_or, set, add-one, refl, sym, ap, ◌∙◌, Result, Ok, Err, MatchResult, subst, inl, inr, arith}
+use Rattle.std.proofs.Common.{◌≡◌, ◌≢◌, ℕ, ◌+◌, ◌*◌, ◌/◌, ◌%◌, ◌^◌, ◌<◌, ◌≤◌, Bool, true, false, cond, ◌==◌, ◌||◌, List, [], ◌∷◌, ◌++◌, length, take, drop, get_or, set, add-one, refl, sym, ap, ◌∙◌, Result, Ok, Err, MatchResult, subst, inl, inr, arith}
 use Rattle.std.specs.List.{All, HoldsAt, insert, remove}
 use Rattle.std.specs.List.Sorted.{IsBinarySearchResult, IsNonDecreasingBy, IsSearchInRange}
 use Rattle.std.specs.Ordering.{nat_cmp, ordering_index}
@@ -21,15 +21,6 @@ module _ {words : List Word} (block : ℕ) (in_order : AreWords words) where
   -- the blocks of the words do not fall
   rise : IsNonDecreasingBy (λ word. word.block) words
   rise = grind (arith, cases_lt, in_order.rise)
-
-  -- after the last word is the place of a greater block
-  pub place-past : 0 < length words → HoldsAt (λ word. word.block < block) words (length words - 1) → IsPlaceFor words block (length words) (length words)
-  place-past some less = record {
-    within = omega arith;
-    before = λ k d from below. omega (arith, less d, rise k (length words - 1) d (omega (arith, below)) (omega (arith, some)));
-    there = λ k d from below. absurd (omega (arith, from, below));
-    after = λ k d from below. absurd (omega (arith, from, below));
-  }
 
   -- where a word is of the block, its place is that of the block
   pub place-of : {at : ℕ} → at < length words → HoldsAt (λ word. word.block ≡ block) words at → IsPlaceFor words block at (at + 1)
@@ -59,20 +50,29 @@ pub none-has : (n : ℕ) (words : List Word) → All (λ word. word.block ≢ n 
 unfolding numbers_of
 none-has n words others = list_any_none (has_bit n) words (λ k d below. has-other n (get_or words k d) (others k d below))
 
+-- What follows is of the place of a block, and of a number.
+module _ {block : ℕ} {words : List Word} {at next : ℕ} (place : IsPlaceFor words block at next) (n : ℕ) where
+  -- the words before the place do not have it, if its block is this one or a greater one
+  pub front : block ≤ n / 64 → numbers_of (take at words) n ≡ false
+  front reached = none-has n (take at words) (λ k d below is. grind (arith, elements, place.before k d))
+
+  -- those after the place do not have it, if its block is this one or a lesser one
+  back : n / 64 ≤ block → numbers_of (drop next words) n ≡ false
+  back reached = none-has n (drop next words) (λ k d below is. grind (arith, elements, place.after (next + k) d))
+
+  -- so where its block is this one or a lesser one, only the words before these can have it
+  pub up-to : n / 64 ≤ block → numbers_of words n ≡ numbers_of (take next words) n
+  unfolding numbers_of
+  up-to reached =
+      ap (λ ws. numbers_of ws n) (sym (take-append-drop next words)) ∙ list_any-append (has_bit n) (take next words) (drop next words)
+      ∙ rw (back reached) (or-false (numbers_of (take next words) n))
+
 -- where one test is the other but for the number, at which it has the value
 abbrev pub Changes : ℕ → Bool → (ℕ → Bool) → (ℕ → Bool) → Type 0
 Changes number value old new = (n : ℕ) → new n ≡ cond (n == number) value (old n)
 
 -- What follows is of a number and the place of its block.
 module _ (number : ℕ) {words : List Word} {at next : ℕ} (place : IsPlaceFor words (number / 64) at next) where
-  -- the words before the place do not have the number
-  front : numbers_of (take at words) number ≡ false
-  front = none-has number (take at words) (λ k d below is. grind (arith, elements, place.before k d))
-
-  -- neither do those after it
-  back : numbers_of (drop next words) number ≡ false
-  back = none-has number (drop next words) (λ k d below is. grind (arith, elements, place.after (next + k) d))
-
   -- what the words have, with some others at the place
   parts : (some : List Word) (n : ℕ) →
       numbers_of (take at words ++ (some ++ drop next words)) n ≡ (numbers_of (take at words) n || (numbers_of some n || numbers_of (drop next words) n))
@@ -85,28 +85,20 @@ module _ (number : ℕ) {words : List Word} {at next : ℕ} (place : IsPlaceFor 
   pub changed : (value : Bool) (old new : List Word) → take at words ++ (old ++ drop next words) ≡ words →
       Changes number value (numbers_of old) (numbers_of new) → Changes number value (numbers_of words) (numbers_of (take at words ++ (new ++ drop next words)))
   changed value old new split told n = parts new n ∙ elim (cases_eq n number) [
-    | inl is ↦ rw (told n, is, eq-eqb number number refl, front, back) (or-false value)
+    | inl is ↦ rw (told n, is, eq-eqb number number refl, front place number (omega arith), back place number (omega arith)) (or-false value)
     | inr other ↦ rw (told n, ne_eqb n number other) (sym (parts old n) ∙ ap (λ ws. numbers_of ws n) split)
   ]
 
--- What follows is where no word is of the block.
-module _ (number : ℕ) {words : List Word} {at : ℕ} (place : IsPlaceFor words (number / 64) at at) where
-  -- with a word of the bit of the number alone, the number is there besides
-  pub put-new : Changes number true (numbers_of words)
-      (numbers_of (insert words at record { block = number / 64; bits = 1 * 2 ^ (number % 64) % 18446744073709551616 }))
-  unfolding numbers_of
-  put-new =
-      let new : Word = record { block = number / 64; bits = 1 * 2 ^ (number % 64) % 18446744073709551616 } in
-      let none : Word = record { block = number / 64; bits = 0 } in
-      changed number place true [] (new ∷ []) (take-append-drop at words) (λ n. simp or-false
-      (has-changed number n none new true refl refl (λ i below. test-put 0 (number % 64) i (omega arith))
-      ∙ ap (cond (n == number) true) (has-none n none refl)))
-
-  -- the number is not there
-  pub take-none : Changes number false (numbers_of words) (numbers_of words)
-  unfolding numbers_of
-  take-none = subst (λ ws. Changes number false (numbers_of words) (numbers_of ws)) (take-append-drop at words)
-      (changed number place false [] [] (take-append-drop at words) (λ n. grind (arith, nat_tests)))
+-- where no word is of the block, and one is put in that has the bit of the number alone, the number is there besides
+pub put-new : (number : ℕ) {words : List Word} {at : ℕ} → IsPlaceFor words (number / 64) at at → Changes number true (numbers_of words)
+    (numbers_of (insert words at record { block = number / 64; bits = 1 * 2 ^ (number % 64) % 18446744073709551616 }))
+unfolding numbers_of
+put-new number {words} {at} place =
+    let new : Word = record { block = number / 64; bits = 1 * 2 ^ (number % 64) % 18446744073709551616 } in
+    let none : Word = record { block = number / 64; bits = 0 } in
+    changed number place true [] (new ∷ []) (take-append-drop at words) (λ n. simp or-false
+    (has-changed number n none new true refl refl (λ i below. test-put 0 (number % 64) i (omega arith))
+    ∙ ap (cond (n == number) true) (has-none n none refl)))
 
 -- What follows is of the word of the block, and of bits that differ from its bits at most at the place of the number.
 module _ (number : ℕ) {words : List Word} {at : ℕ} (place : IsPlaceFor words (number / 64) at (at + 1)) (word : Word) (read : word ≡ get_or words at word)

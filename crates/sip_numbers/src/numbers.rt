@@ -97,7 +97,7 @@ impl Numbers {
 }
 
 /// The first number from `from` on that the first two sets have, and the third has not.
-#[tactic(auto, using(crate::proofs::BothLemmas::turns))]
+#[tactic(auto, using(std::proofs::lemmas::List::take_all))]
 fn next_but(words: &[Word], other: &[Word], but: &[Word], from: u64) -> Option<u64>
     requires words { AreWords words.now }
     requires other { AreWords other.now }

@@ -54,7 +54,7 @@ impl Numbers {
     {
         let block = number / 64;
         let bit = 1 << (number % 64);
-        match place_for(&self.words, block) {
+        match place_for(&self.words, block, near(&self.words, block)) {
             Ok(at) => {
                 self.words[at].bits |= bit;
                 Ok(())
@@ -68,7 +68,8 @@ impl Numbers {
     pub fn take(&mut self, number: u64)
         ensures { (n : ℕ) → numbers_of self.new n ≡ cond (n == number) false (numbers_of self.old n) }
     {
-        let Ok(at) = place_for(&self.words, number / 64) else {
+        let block = number / 64;
+        let Ok(at) = place_for(&self.words, block, near(&self.words, block)) else {
             return;
         };
         let bits = self.words[at].bits & !(1 << (number % 64));
@@ -105,12 +106,16 @@ fn next_but(words: &[Word], other: &[Word], but: &[Word], from: u64) -> Option<u
     ensures found { IfSome result (IsFirstInBoth (numbers_of words.now) (λ n. numbers_of other.now n && not (numbers_of but.now n)) from) }
     ensures none { IfNone result (NoneInBoth (numbers_of words.now) (λ n. numbers_of other.now n && not (numbers_of but.now n)) from) }
 {
-    let (Ok(start) | Err(start)) = place_for(words, from / 64);
+    let block = from / 64;
+    let (Ok(start) | Err(start)) = place_for(words, block, near(words, block));
+    let (mut beside, mut out) = (near(other, block), near(but, block));
     for at in start..words.len() {
         let word = words[at];
         let left = Word {
             block: word.block,
-            bits: word.bits & bits_of(other, word.block) & !bits_of(but, word.block),
+            bits: word.bits
+                & bits_of(other, word.block, &mut beside)
+                & !bits_of(but, word.block, &mut out),
         };
         if let Some(number) = first_from(left, from) {
             return Some(number);
@@ -119,28 +124,40 @@ fn next_but(words: &[Word], other: &[Word], but: &[Word], from: u64) -> Option<u
     None
 }
 
-/// The bits of the word of this block. None of them is set where there is no such word.
-fn bits_of(words: &[Word], block: u64) -> u64
+/// The bits of the word of this block. None of them is set where there is no such word. It is looked for at `near` first, and `near` is left after it.
+#[inline(always)]
+fn bits_of(words: &[Word], block: u64, near: &mut usize) -> u64
     requires { AreWords words.now }
     ensures { (n : ℕ) → n / 64 ≡ block → test result (n % 64) ≡ numbers_of words.now n }
 {
-    match place_for(words, block) {
-        Ok(at) => words[at].bits,
-        Err(_) => 0,
+    match place_for(words, block, *near) {
+        Ok(at) => {
+            *near = at + 1;
+            words[at].bits
+        }
+        Err(at) => {
+            *near = at;
+            0
+        }
     }
 }
 
-/// The place of the word of this block, or the one where it would stand. Where no block is left out before it, the first word tells it.
-fn place_for(words: &[Word], block: u64) -> Result<usize, usize>
+/// The place of the word of this block, or the one where it would stand: at `near`, or where a search finds it.
+#[inline(always)]
+fn place_for(words: &[Word], block: u64, near: usize) -> Result<usize, usize>
     requires { AreWords words.now }
     ensures { MatchResult result (λ at. IsPlaceFor words.now block at (at + 1)) (λ at. IsPlaceFor words.now block at at) }
 {
-    let first = words.first().map_or(0, |word| word.block);
-    let near = block.saturating_sub(first) as usize;
     match words.get(near) {
         Some(word) if word.block == block => Ok(near),
         _ => words.binary_search_by_key(&block, |word| word.block),
     }
+}
+
+/// The place where the word of this block stands if no block is left out before it.
+fn near(words: &[Word], block: u64) -> usize {
+    let first = words.first().map_or(0, |word| word.block);
+    block.saturating_sub(first) as usize
 }
 
 /// The first number from `from` on that the word has.

@@ -1,5 +1,5 @@
 //! The response to which an ACK belongs: the INVITE and the ACK are read anew, and tell all but the response, which is told by its To alone.
-ghost use Rattle.std.specs.Prelude.{◌≡◌, ◌<◌, IfOk, IfSome, All, length};
+ghost use Rattle.std.specs.Prelude.{◌≡◌, ◌<◌, IfOk, All, length};
 ghost use Rattle.sip_standard.specs.AckOf.{AckOf};
 ghost use Rattle.sip_machine.specs.Owes.{owed_in, owes_names};
 ghost use Rattle.sip_machine.specs.Texts.{Keeps, text_of};
@@ -15,7 +15,6 @@ use std::alloc::{AllocError, Global};
 
 /// The message of the first debt of the row that is a response to the INVITE to which the event's ACK belongs (RFC 3261,
 /// section 17.1.1.3), and whose deadline has not passed; None if there is none.
-#[tactic(auto, using(crate::proofs::debts::DuesEachLemmas::of_blank))]
 pub(crate) fn first_acked(
     alloc: Global,
     book: &Book,
@@ -54,6 +53,7 @@ pub(crate) fn first_acked(
 /// The message of the first debt of the row whose message has this To, from which the blanks were taken, and whose deadline has
 /// not passed. The first debt of all is looked at first. Where it is another one, it is looked for among the messages that the book keeps
 /// under the hash of the To. Where hashes do not stand, each different message that the row owes is looked at.
+#[tactic(auto, using(crate::proofs::debts::DuesEachLemmas::of_blank))]
 fn first_with_to(
     alloc: Global,
     book: &Book,
@@ -93,6 +93,7 @@ fn first_with_to(
 }
 
 /// What `first_with_to` finds, by a look at each message that the row owes, once.
+#[tactic(auto, using(crate::proofs::debts::DuesEachLemmas::of_blank))]
 fn first_named(
     alloc: Global,
     book: &Book,

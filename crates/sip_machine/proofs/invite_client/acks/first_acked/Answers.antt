@@ -45,10 +45,6 @@ returns-then-not-is_ack_for-clause-finds c =
     λ k d low pays. AckOf-none _ _ _ c.in-Some.ack c.in-Some-2.invite c.is_ack_for.result
     (rw (c.in-Some.is, c.number.ensures) at c.in_ok-ack.ensures) (rw c.in-Some-2.is at c.in_ok-invite.ensures) c.is_ack_for.ensures c.if-not-is_ack_for.true pays.0
 
--- the accounts have what each row owes, and the book keeps the messages of all that the row owes
-pub first_with_to-requires-clause-owed : goal.first_with_to-requires-clause-owed
-first_with_to-requires-clause-owed c = rw c.in-Some-accounts.ensures.some c.requires.owed
-
 -- an ACK pays the debts whose response has its To and belongs to the INVITE, so the first with that To is the first that it pays
 pub returns-clause-finds : goal.returns-clause-finds
 returns-clause-finds c =
@@ -65,4 +61,4 @@ returns-clause-finds c =
     let by_to = AckOf-by_to ack invite response c.in-Some.ack c.in-Some-2.invite c.is_ack_for.result
     (rw (c.in-Some.is, c.number.ensures) at c.in_ok-ack.ensures) (rw c.in-Some-2.is at c.in_ok-invite.ensures) c.is_ack_for.ensures c.if-not-is_ack_for.false c.of-to.result to in
     (λ has. (by_to.0 has.0, has.1), λ pays. (by_to.1 pays.0, pays.1))) finds)
-    (rw (c.in-Some-accounts.ensures.some, c.moment.ensures) at c.first_with_to.ensures)
+    (rw c.moment.ensures at c.first_with_to.ensures.finds)

@@ -1,5 +1,5 @@
 -- Words in order, after the word at a place is put in, changed or taken out.
-use Rattle.std.proofs.Common.{◌≡◌, ◌≢◌, ℕ, ◌+◌, ◌*◌, ◌/◌, ◌%◌, ◌^◌, ◌<◌, ◌≤◌, Bool, true, false, cond, ◌==◌, ◌||◌, List, [], ◌∷◌, ◌++◌, length, take, drop, get_or, set, add-one, refl, sym, ap, ◌∙◌, Result, Ok, Err, MatchResult, subst, inl, inr, arith}
+use Rattle.std.proofs.Common.{◌≡◌, ◌≢◌, ℕ, ◌+◌, ◌-◌, ◌*◌, ◌/◌, ◌%◌, ◌^◌, ◌<◌, ◌≤◌, Bool, true, false, cond, ◌==◌, ◌||◌, List, [], ◌∷◌, ◌++◌, length, take, drop, get_or, set, add-one, refl, sym, ap, ◌∙◌, Result, Ok, Err, MatchResult, subst, inl, inr, arith}
 use Rattle.std.specs.List.{All, HoldsAt, insert, remove}
 use Rattle.std.specs.List.Sorted.{IsBinarySearchResult, IsNonDecreasingBy, IsSearchInRange}
 use Rattle.std.specs.Ordering.{nat_cmp, ordering_index}
@@ -8,7 +8,7 @@ use Rattle.std.proofs.Math.Bool.{or-false}
 use Rattle.std.proofs.lemmas.Bool.{cases_eq, cases_lt, eq-eqb, ne_eqb}
 use Rattle.std.proofs.lemmas.Grind.{elements}
 use Rattle.std.proofs.lemmas.Bool.Decides.{nat_tests}
-use Rattle.std.proofs.lemmas.List.{drop_more, set_split, take-append-drop}
+use Rattle.std.proofs.lemmas.List.{drop_more, get_or_default, set_split, take-append-drop}
 use Rattle.std.proofs.lemmas.List.Folds.{list_any-append, list_any_none}
 use Rattle.sip_masks.specs.Bits.{test}
 use Rattle.sip_numbers.specs.Numbers.{has_bit, numbers_of}
@@ -29,6 +29,16 @@ module _ {words : List Word} (block : ℕ) (in_order : AreWords words) where
     before = λ k d from below. omega (arith, is d, in_order.rise k at d below within);
     there = λ k d from below. subst (λ i. (get_or words i d).block ≡ block) {x = at} (omega (arith, from, below)) (is d);
     after = λ k d from below. omega (arith, is d, in_order.rise at k d (omega (arith, from)) below);
+  }
+
+  -- between a word of a lesser block and one of a greater block is the place of the block
+  pub left-out : {at : ℕ} (e : Word) → at ≤ length words → (at < length words → block < (get_or words at e).block) → (0 < at → (get_or words (at - 1) e).block < block) →
+      IsPlaceFor words block at at
+  left-out {at} e within high low = record {
+    within = within;
+    before = λ k d from below. grind (arith, get_or_default, low, rise k (at - 1) e);
+    there = λ k d from below. absurd (omega (arith, from, below));
+    after = λ k d from below. grind (arith, get_or_default, high, rise at k e);
   }
 
   -- a search by halves ends at the place of the block

@@ -1,5 +1,6 @@
 //! Sets of numbers.
 ghost use Rattle.std.specs.Prelude.{◌≡◌, ◌==◌, ◌&&◌, ◌<◌, ◌≤◌, ◌+◌, ◌/◌, ◌%◌, ◌^◌, ℕ, cond, not, true, false, IfSome, IfNone, OnOk, OnErr, MatchResult};
+ghost use Rattle.std.specs.Bool.{OnTrue};
 ghost use Rattle.sip_masks.specs.Bits.{test};
 ghost use Rattle.sip_numbers.specs.Numbers.{IsFirstInBoth, NoneInBoth, has_bit, numbers_of};
 ghost use Rattle.sip_numbers.specs.inner.Numbers.{AreWords, IsFirstOf, IsPlaceFor};
@@ -150,8 +151,26 @@ fn place_for(words: &[Word], block: u64, near: usize) -> Result<usize, usize>
 {
     match words.get(near) {
         Some(word) if word.block == block => Ok(near),
+        _ if is_left_out(words, block, near) => Err(near),
         _ => words.binary_search_by_key(&block, |word| word.block),
     }
+}
+
+/// Whether the words before the place and at it tell that no word is of this block, and that it would stand there.
+fn is_left_out(words: &[Word], block: u64, place: usize) -> bool
+    requires { AreWords words.now }
+    ensures { OnTrue result (IsPlaceFor words.now block place place) }
+{
+    if place > words.len() {
+        return false;
+    }
+    if place < words.len() && words[place].block <= block {
+        return false;
+    }
+    if place > 0 && block <= words[place - 1].block {
+        return false;
+    }
+    true
 }
 
 /// The place where the word of this block stands if no block is left out before it.

@@ -10,7 +10,7 @@ returns-in-Some c =
     place-of c.args.block c.requires item.0 (λ d. subst (λ word. word.block ≡ c.args.block) (item.1 d) c.if-word-block.true)
 
 -- the search finds it: each call of the closure answers the block of a word
-pub returns-in_default : goal.returns-in_default
-returns-in_default c =
+pub returns-in_default-2 : goal.returns-in_default-2
+returns-in_default-2 c =
     let found = c.binary_search_by_key.ensures in
     searched c.args.block c.requires _ found.bound (found.position (λ word. word.block) (answers_always _ _ _ (λ f a r g called. search rules)))

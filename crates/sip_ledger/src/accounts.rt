@@ -18,7 +18,7 @@ mod queue;
 mod strikes;
 
 use crate::accounts::account::{
-    Account, EMPTY, debt_for, earliest_must, expired, find, find_some, first_debts,
+    Account, EMPTY, debt_for, debts, earliest_must, expired, find, find_some,
     gained_and_expired, paid_and_expired, place_for, same,
 };
 use crate::accounts::gains::{Gains, Seek, drop_first};
@@ -309,8 +309,7 @@ impl Accounts {
         requires { row < length self.now }
         ensures { IfOk result (λ debts. debts.items ≡ owed_in self.now row) }
     {
-        let most = usize::MAX;
-        first_debts(alloc, &self.gains, &self.strikes, self.rows[row], most)
+        debts(alloc, &self.gains, &self.strikes, self.rows[row])
     }
 
     /// What the row owes first, if it owes something.
@@ -324,19 +323,6 @@ impl Accounts {
             return None;
         }
         Some(debt_for(&self.gains, account, account.start))
-    }
-
-    /// What the row owes first: this many debts, or all where it owes fewer.
-    pub fn first_debts(
-        &self,
-        alloc: Global,
-        row: usize,
-        most: usize,
-    ) -> Result<Vec<Debt>, AllocError>
-        requires { row < length self.now }
-        ensures { IfOk result (λ debts. debts.items ≡ take most (owed_in self.now row)) }
-    {
-        first_debts(alloc, &self.gains, &self.strikes, self.rows[row], most)
     }
 
     /// Gives back what no row needs. It is to be called after each step: where many rows pay, what they paid is then looked at once.

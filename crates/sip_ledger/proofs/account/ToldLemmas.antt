@@ -52,10 +52,6 @@ module _ {gains : Gains} {strikes : List Strike} {a : Account} where
   pub told-start : IsAccount gains strikes a → a.start < a.end → slice_get (account_debts gains strikes a) 0 ≡ Some (debt_of (entry_at (entries_of gains) a.start) (must_at gains a a.start))
   told-start is some = ap (λ l. slice_get l 0) (told-here is (told-none is refl) some)
 
-  -- before a place of it, it owes the first of its debts
-  pub told-first : {place n : ℕ} {debts : List Debt} → IsAccount gains strikes a → IsToldTo gains strikes a place debts → length debts ≡ n → debts ≡ take n (account_debts gains strikes a)
-  told-first {place} {n} {debts} is was long = grind (arith, told-split is was, take_all, take-append-le)
-
 -- an account with something left does not owe what an account at its end owes
 longer : {gains : Gains} {strikes : List Strike} {one other : Account} {at beside : ℕ} {debts : List Debt} → IsAccount gains strikes one → IsAccount gains strikes other →
     IsToldTo gains strikes one at debts → IsToldTo gains strikes other beside debts → at < one.end → other.end ≤ beside → account_debts gains strikes one ≢ account_debts gains strikes other
@@ -220,7 +216,7 @@ module _ {gains : Gains} {strikes : List Strike} {a : Account} {from at : ℕ} {
   least-first_due gained is held owed here rises = grind (arith, nat_tests, cases_lt, true≢false, must-parts, must-from, leading, was, gap)
 
 -- lemmas for the prover under one name: what an account owes, from debt to debt
-pub ruleset told_by_place = (kept-start, told-none, told-first, told-all, take_all)
+pub ruleset told_by_place = (kept-start, told-none, told-all)
 
 -- lemmas for the prover under one name: the least deadline of what an account must send first
 pub ruleset led_by_start = (before-start, kept-start, leading)

@@ -25,9 +25,6 @@ pub(crate) struct Account {
 /// An account that was made of another one, if there was memory for it.
 pub(crate) type Made = Result<Account, AllocError>;
 
-/// How many of some messages are gone through before they stand in a queue.
-const FEW: usize = 1;
-
 /// Nothing is owed.
 pub(crate) const EMPTY: Account = Account {
     start: 0,
@@ -217,7 +214,7 @@ pub(crate) fn find_first(
     None
 }
 
-/// What `find_first` finds, however many the messages are. Where they are more than a few, it is asked first at which place of all one of them is left
+/// What `find_first` finds, however many the messages are. Where the first of them does not tell, it is asked at which place of all one of them is left
 /// first: for the same key, those that were left the last time are not gone through again.
 pub(crate) fn find_some(
     gains: &mut Gains,
@@ -232,7 +229,8 @@ pub(crate) fn find_some(
     ensures same { gains.new ≡ gains.old }
     ensures first { IfOk result (IsFirstPaying (entries_of gains.old) (owes_at gains.old strikes.now account) (numbers_of messages.now) moment) }
 {
-    if let Some(found) = find_first(gains, strikes, account, messages, moment, FEW) {
+    // Mostly the first of the messages that are left tells.
+    if let Some(found) = find_first(gains, strikes, account, messages, moment, 1) {
         return Ok(found);
     }
     let alloc = *gains.entries.allocator();
@@ -650,25 +648,21 @@ pub(crate) fn same(gains: &Gains, strikes: &[Strike], one: Account, other: Accou
     at == one.end && beside == other.end
 }
 
-/// What the account owes first: this many debts, or all where it owes fewer.
+/// What the account owes.
 #[tactic(auto, using(crate::proofs::account::ToldLemmas::told_by_place))]
-pub(crate) fn first_debts(
+pub(crate) fn debts(
     alloc: Global,
     gains: &Gains,
     strikes: &[Strike],
     account: Account,
-    most: usize,
 ) -> Result<Vec<Debt>, AllocError>
     requires gained { AreGains gains.now }
     requires account { IsAccount gains.now strikes.now account }
-    ensures { IfOk result (λ debts. debts.items ≡ take most (account_debts gains.now strikes.now account)) }
+    ensures { IfOk result (λ debts. debts.items ≡ account_debts gains.now strikes.now account) }
 {
     let mut debts = Vec::new(alloc);
     let mut place = account.start;
     while place < account.end {
-        if debts.len() == most {
-            return Ok(debts);
-        }
         debts.push(debt_for(gains, account, place))?;
         place = next(gains, strikes, account, place + 1);
     }

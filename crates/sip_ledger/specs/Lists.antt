@@ -1,4 +1,4 @@
-use Rattle.std.specs.Prelude.{◌≡◌, ◌<◌, ℕ, Bool, All, IsTrue, length, List, drop, get_or, take}
+use Rattle.std.specs.Prelude.{◌<◌, ℕ, length, List, drop, get_or, take}
 
 -- Parts of lists, and lists of numbers that rise.
 

@@ -1,5 +1,5 @@
 //! What many rows owe: one list of what they gained, and for each row an account of what it owes of that list.
-ghost use Rattle.std.specs.Prelude.{◌≡◌, ◌↔◌, ◌<◌, ◌≤◌, ◌++◌, ◌∷◌, [], ℕ, List, IsTrue, OnOk, OnErr, IfOk, IfSome, IfNone, All, length, set, map, filter, take, drop, get_or, slice_get};
+ghost use Rattle.std.specs.Prelude.{◌≡◌, ◌↔◌, ◌<◌, ◌≤◌, ◌++◌, ◌∷◌, [], List, IsTrue, OnOk, OnErr, IfOk, All, length, set, map, filter, take, drop, slice_get};
 ghost use Rattle.std.specs.List.{list_any};
 ghost use Rattle.sip_ledger.specs.Accounts.{owed_in, AppendsOwed};
 ghost use Rattle.sip_ledger.specs.Debts.{IsFirstPaid, PaysSome, counts_at, softened_debt, is_payable, debt_deadlines, earliest, paid_by};
@@ -18,8 +18,8 @@ mod queue;
 mod strikes;
 
 use crate::accounts::account::{
-    Account, EMPTY, debt_for, debts, earliest_must, expired, find, find_some,
-    gained_and_expired, paid_and_expired, place_for, same,
+    Account, EMPTY, debt_for, debts, earliest_must, expired, find, find_some, gained_and_expired,
+    paid_and_expired, place_for, same,
 };
 use crate::accounts::gains::{Gains, Seek, drop_first};
 use crate::accounts::left::{drop_front, let_go};
@@ -157,7 +157,14 @@ impl Accounts {
         ensures first { IfOk result (IsFirstPaid (PaysSome (numbers_of messages.now) moment) moment (owed_in self.old row)) }
     {
         let account = self.rows[row];
-        let found = find_some(&mut self.gains, &self.strikes, account, key, messages, moment)?;
+        let found = find_some(
+            &mut self.gains,
+            &self.strikes,
+            account,
+            key,
+            messages,
+            moment,
+        )?;
         match found {
             Some(place) => Ok(Some(self.gains.entry(place).message)),
             None => Ok(None),

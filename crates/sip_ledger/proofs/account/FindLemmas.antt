@@ -147,9 +147,11 @@ pub led-first : (gains : Gains) (strikes : List Strike) (a : Account) {test : �
     owes_at gains strikes a place ≡ true → t ≤ (entry_at (entries_of gains) place).deadline → test message ≡ true →
     IsFirstPaying (entries_of gains) (owes_at gains strikes a) test t (Some place)
 led-first gains strikes a {test} {t} {place} {message} gained led owed early passes =
-    let is = (gained.messages message place led.held).1 in
-    (owed, (subst (λ n. test n ≡ true) (sym is) passes, early),
-    λ k before its pays. omega (arith, before, led.first (entry_at (entries_of gains) k).message k pays.0 (held_left gains _ k refl ∙ owed-left gains strikes a k its)))
+    let is = (gained.messages message place led.held).1 in (
+      owed,
+      (subst (λ n. test n ≡ true) (sym is) passes, early),
+      λ k before its pays. omega (arith, before, led.first (entry_at (entries_of gains) k).message k pays.0 (held_left gains _ k refl ∙ owed-left gains strikes a k its)),
+    )
 
 -- What follows is of one account, and what a send at the moment t of a message that passes the test pays of it.
 module _ (gains : Gains) (strikes : List Strike) (a : Account) (test : ℕ → Bool) (t : ℕ) where

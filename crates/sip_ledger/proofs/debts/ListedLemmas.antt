@@ -22,11 +22,6 @@ pub listed-none : (o m : ℕ → Bool) (i : ℕ) (xs : List Entry) → ((k : ℕ
 listed-none o m i [] none = refl
 listed-none o m i (x ∷ xs) none = grind (arith, nat_tests, listed-none o m (i + 1) xs)
 
--- there are no more debts than entries
-pub listed-few : (o m : ℕ → Bool) (i : ℕ) (xs : List Entry) → length (debts_from o m i xs) ≤ length xs
-listed-few o m i [] = omega arith
-listed-few o m i (x ∷ xs) = grind (arith, listed-few o m (i + 1) xs)
-
 -- where P holds of the debt of each place that is owed, it holds of all debts
 pub listed-All : (P : Debt → Type 0) (o m : ℕ → Bool) (i : ℕ) (xs : List Entry) →
     ((j : ℕ) (e : Entry) → j < length xs → o (i + j) ≡ true → P (debt_of (get_or xs j e) (m (i + j)))) → All P (debts_from o m i xs)

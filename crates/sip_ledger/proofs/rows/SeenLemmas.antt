@@ -1,6 +1,6 @@
 -- Accounts as contracts see them: a list of what each row owes, and the messages that rows owe.
 use Rattle.sip_ledger.proofs.Words.{◌≡◌, ℕ, ◌+◌, ◌<◌, ◌≤◌, ◌==◌, true, false, List, [], ◌∷◌, ◌++◌, length, get_or, get_or-map, map, refl, sym, subst, ap, ◌∙◌, arith, nat_tests, All, Contains, list_any, and-true, cases_eq, cases_lt, eqb-true, false_from_ne_true, le-leb, true≢false, append_assoc, get_or_append_left, get_or_default, get_or_push, length_push, All-get_or, All-map, Contains-append_left, Contains-push, Contains-push_cases, list_any_at, list_any_none, All-cons, All-nil, Debt, Account, Gains, Strike, AppendsOwed, owes_message, some_owes, is_payable, Rise, account_debts, accounts_debts, entries_of, entry_at, must_at, owes_at, holds, common_steps, ◌≢◌, take, set, IsTrue, Option, Some, None, IfSome, IfNone, Result, Ok, Err, IsErr, OnErr, ◌↔◌, is_err, is_some, eq-eqb, drop_min, All-weaker, sum_by-cons, debts_print, owed_in, softened_account, softened_debt, debt_deadlines, earliest, IsNextGain, AreAccounts, AreGains, IsAccount, IsFirstPayable, KeepsAccounts, pays_at, map-append, map-set, length-map, take-map, drop-map, All-take, All-drop, All-push, All-set, ◌^◌}
-use Rattle.sip_ledger.proofs.debts.ListedLemmas.{listed-each, listed-few, listed-softened}
+use Rattle.sip_ledger.proofs.debts.ListedLemmas.{listed-each, listed-softened}
 use Rattle.sip_ledger.proofs.account.AccountLemmas.{kept-start, empty-account, empty-debts, kept-all, must-below, owed-within}
 use Rattle.sip_ledger.proofs.gains.LeftLemmas.{entries_long, held_left, owed-left}
 use Rattle.sip_ledger.proofs.debts.OwedLemmas.{listed-any}
@@ -50,11 +50,6 @@ module _ {gains : Gains} {strikes : List Strike} {rows : List Account} {seen : L
   pub over-to : (new : Gains) → KeepsAccounts gains new → AreGains new → AreAccounts gains strikes rows → accounts_debts gains strikes rows ≡ seen →
       AreAccounts new strikes rows × (accounts_debts new strikes rows ≡ seen)
   over-to new keeps gained are view = let all = keeps.each strikes rows are.each in (record { gained = gained; each = all.0 }, all.1 ∙ view)
-
--- an account has no more debts than a number of the code can count
-pub account-few : (gains : Gains) (strikes : List Strike) (a : Account) → AreGains gains → length (account_debts gains strikes a) < 2 ^ 64
-unfolding account_debts
-account-few gains strikes a are = omega (arith, listed-few (owes_at gains strikes a) (must_at gains a) 0 (entries_of gains), entries_long gains are.long, are.small)
 
 -- the debts of a softened account are the softened ones
 soft-debts : (gains : Gains) (strikes : List Strike) (a : Account) (place : ℕ) → a.end ≤ place →

@@ -1,5 +1,5 @@
 //! The places of what is left of each message.
-ghost use Rattle.std.specs.Prelude.{◌≡◌, ◌==◌, ◌&&◌, ◌<◌, ◌≤◌, ℕ, Bool, cond, true, false, [], IfOk, IfSome, IfNone, OnOk, OnErr};
+ghost use Rattle.std.specs.Prelude.{◌≡◌, ◌==◌, ◌&&◌, ◌<◌, ◌≤◌, ℕ, cond, true, false, [], IfOk, IfSome, IfNone, OnOk, OnErr};
 ghost use Rattle.sip_numbers.specs.Numbers.{numbers_of};
 ghost use Rattle.sip_ledger.specs.inner.Places.{HasLeft, IsFirstHeld, IsFrom, IsNext, IsNextLeft, IsQueue, holds};
 
@@ -156,13 +156,10 @@ impl Places {
 
     /// The first pair of the queue whose message is left at its place, after those of the messages that are left are there. A pair before it goes, and comes
     /// again at the first place at which its message is left.
-    fn head(
-        &self,
-        messages: &Numbers,
-        queue: &mut Queue,
-    ) -> Result<Option<(u64, u64)>, AllocError>
+    fn head(&self, messages: &Numbers, queue: &mut Queue) -> Result<Option<(u64, u64)>, AllocError>
         ensures queue { (end : ℕ) → IsQueue self.now end queue.old → OnOk result (IsQueue self.now end queue.new) }
-        ensures first { (end : ℕ) → IsQueue self.now end queue.old → IfOk result (λ found. IfSome found (IsFirstHeld self.now (numbers_of messages.now))) }
+        ensures first { (end : ℕ) → IsQueue self.now end queue.old → IfOk result (λ found. IfSome found
+            (IsFirstHeld self.now (numbers_of messages.now))) }
     {
         self.gather(messages, queue)?;
         for _turn in 0..usize::MAX {

@@ -54,7 +54,8 @@ impl Queue {
 
     /// The first of the messages from this one on that is in both sets, and does not stand here.
     pub(crate) fn next_out(&self, messages: &Numbers, left: &Numbers, from: u64) -> Option<u64>
-        ensures some { IfSome result (λ n. (from ≤ n) × ((m : ℕ) → from ≤ m → m < n → numbers_of messages.now m ≡ true → numbers_of left.now m ≡ true → Stands self.now m)) }
+        ensures low { IfSome result (λ n. from ≤ n) }
+        ensures some { IfSome result (λ n. (m : ℕ) → from ≤ m → m < n → numbers_of messages.now m ≡ true → numbers_of left.now m ≡ true → Stands self.now m) }
         ensures none { IfNone result ((m : ℕ) → from ≤ m → numbers_of messages.now m ≡ true → numbers_of left.now m ≡ true → Stands self.now m) }
     {
         messages.next_in_both_but(left, &self.messages, from)

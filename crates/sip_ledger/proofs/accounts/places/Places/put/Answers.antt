@@ -1,4 +1,4 @@
-use Rattle.sip_ledger.proofs.Words.{ArePlaces, AreQueues}
+use Rattle.sip_ledger.proofs.Words.{ArePlaces}
 use Rattle.sip_ledger.proofs.Lemmas.{arith, cond, held-updated, holds, nat_tests, queues-later, queues-none, subst, true, ℕ, ◌&&◌, ◌<◌, ◌==◌, ◌≡◌}
 use Rattle.sip_ledger.proofs.accounts.places.Places.put.Goals as goal
 use Rattle.sip_ledger.proofs.accounts.places.Places.put.Goals.{then-place-self, else-place-self}

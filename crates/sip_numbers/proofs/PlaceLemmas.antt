@@ -12,10 +12,11 @@ use Rattle.std.proofs.lemmas.List.{get_or_default, set-get_or, set_split, take-a
 use Rattle.std.proofs.lemmas.List.Sorted.{IsPermutation-insert, IsPermutation-middle, list_any-IsPermutation}
 use Rattle.std.proofs.lemmas.List.Folds.{list_any-append, list_any_none}
 use Rattle.sip_masks.specs.Bits.{test}
+use Rattle.sip_masks.proofs.RunLemmas.{none-set}
 use Rattle.sip_numbers.specs.Numbers.{has_bit, numbers_of}
 use Rattle.sip_numbers.specs.declared.numbers.Word.{Word}
 use Rattle.sip_numbers.specs.inner.Numbers.{AreWords, IsPlaceFor}
-use Rattle.sip_numbers.proofs.WordLemmas.{has-other, has-none, has-changed, test-put, test-taken}
+use Rattle.sip_numbers.proofs.WordLemmas.{has-other, has-same, has-none, has-changed, test-put, test-taken}
 
 -- What follows is of the place of a block among words in order.
 module _ {words : List Word} (block : ℕ) (in_order : AreWords words) where
@@ -59,7 +60,7 @@ module _ {words : List Word} (block : ℕ) (in_order : AreWords words) where
 -- words of other blocks do not have the number
 pub none-has : (n : ℕ) (words : List Word) → All (λ word. word.block ≢ n / 64) words → numbers_of words n ≡ false
 unfolding numbers_of
-none-has n words others = list_any_none (has_bit n) words (λ k d below. has-other n (get_or words k d) (others k d below))
+none-has n words others = list_any_none (has_bit n) words (λ k d below. grind (arith, nat_tests, others k d below))
 
 -- What follows is of the place of a block, and of a number.
 module _ {block : ℕ} {words : List Word} {at next : ℕ} (place : IsPlaceFor words block at next) (n : ℕ) where
@@ -67,21 +68,16 @@ module _ {block : ℕ} {words : List Word} {at next : ℕ} (place : IsPlaceFor w
   pub front : block ≤ n / 64 → numbers_of (take at words) n ≡ false
   front reached = none-has n (take at words) (λ k d below is. grind (arith, elements, place.before k d))
 
-  -- those after the place do not have it, if its block is this one or a lesser one
-  back : n / 64 ≤ block → numbers_of (drop next words) n ≡ false
-  back reached = none-has n (drop next words) (λ k d below is. grind (arith, elements, place.after (next + k) d))
-
-  -- so where its block is this one or a lesser one, only the words before these can have it
+  -- if its block is this one or a lesser one, only the words up to the place can have it
   pub up-to : n / 64 ≤ block → numbers_of words n ≡ numbers_of (take next words) n
   unfolding numbers_of
   up-to reached =
       ap (λ ws. numbers_of ws n) (sym (take-append-drop next words)) ∙ list_any-append (has_bit n) (take next words) (drop next words)
-      ∙ rw (back reached) (or-false (numbers_of (take next words) n))
+      ∙ rw (none-has n (drop next words) (λ k d below is. grind (arith, elements, place.after (next + k) d))) (or-false (numbers_of (take next words) n))
 
-  -- where its block is this one, only the words at the place can have it
-  pub others : n / 64 ≡ block → numbers_of (take at words ++ drop next words) n ≡ false
-  unfolding numbers_of
-  others is = list_any-append (has_bit n) (take at words) (drop next words) ∙ rw (front (omega (arith, is)), back (omega (arith, is))) refl
+  -- if its block is this one, only the words at the place can have it
+  others : n / 64 ≡ block → numbers_of (take at words ++ drop next words) n ≡ false
+  others same = none-has n (take at words ++ drop next words) (λ k d below is. grind (arith, cases_lt, elements, place.before k d, place.after (next + (k - at)) d))
 
 -- where one test is the other but for the number, at which it has the value
 abbrev pub Changes : ℕ → Bool → (ℕ → Bool) → (ℕ → Bool) → Type 0
@@ -100,6 +96,17 @@ pub has-at : (n : ℕ) (words : List Word) (at : ℕ) (word : Word) → at < len
     numbers_of words n ≡ (has_bit n word || numbers_of (remove words at) n)
 has-at n words at word within read =
     ap (λ ws. numbers_of ws n) (sym (set-get_or words at word) ∙ ap (set words at) (sym read)) ∙ has-set n words at word within
+
+-- the word of a block tells of each number of the block
+pub told-there : {words : List Word} {block at : ℕ} → IsPlaceFor words block at (at + 1) → (n : ℕ) (d : Word) → n / 64 ≡ block →
+    test (get_or words at d).bits (n % 64) ≡ numbers_of words n
+told-there {words} {block} {at} place n d same =
+    let word = get_or words at d in
+    let within : at < length words = omega (arith, place.within) in
+    grind (arith, nat_tests, has-at n words at word within (get_or_default words at d word within), rw (← add-one) at (others place n same), place.there at d)
+
+-- what a place tells
+pub ruleset told = (told-there, none-has, none-set, cases_lt)
 
 -- where no word is of the block, and one is put in that has the bit of the number alone, the number is there besides
 pub put-new : (number : ℕ) (words : List Word) (at : ℕ) → Changes number true (numbers_of words)

@@ -127,6 +127,7 @@ fn next_but(words: &[Word], other: &[Word], but: &[Word], from: u64) -> Option<u
 
 /// The bits of the word of this block. None of them is set where there is no such word. It is looked for at `near` first, and `near` is left after it.
 #[inline(always)]
+#[tactic(auto, using(crate::proofs::PlaceLemmas::told))]
 fn bits_of(words: &[Word], block: u64, near: &mut usize) -> u64
     requires { AreWords words.now }
     ensures { (n : ℕ) → n / 64 ≡ block → test result (n % 64) ≡ numbers_of words.now n }

@@ -1,11 +1,12 @@
 -- Words in order, after the word at a place is put in, changed or taken out.
-use Rattle.std.proofs.Common.{◌≡◌, ◌≢◌, ℕ, ◌+◌, ◌-◌, ◌*◌, ◌/◌, ◌%◌, ◌^◌, ◌<◌, ◌≤◌, Bool, true, false, cond, ◌==◌, ◌||◌, List, [], ◌∷◌, ◌++◌, length, take, drop, get_or, set, suc, add-one, refl, sym, ap, ◌∙◌, Result, Ok, Err, MatchResult, subst, inl, inr, arith}
-use Rattle.std.specs.List.{All, HoldsAt, insert, remove}
+use Rattle.std.proofs.Common.{◌≡◌, ◌≢◌, ℕ, ◌+◌, ◌-◌, ◌*◌, ◌/◌, ◌%◌, ◌^◌, ◌<◌, ◌≤◌, Bool, true, false, cond, ◌==◌, ◌||◌, List, ◌++◌, length, take, drop, get_or, set, suc, add-one, refl, sym, ap, ◌∙◌, Result, Ok, Err, MatchResult, subst, arith, nat_lt}
+use Rattle.std.specs.List.{All, AllWithin, HoldsAt, insert, remove}
+use Rattle.std.specs.Bool.{OnTrue}
 use Rattle.std.specs.List.Sorted.{IsBinarySearchResult, IsNonDecreasingBy, IsSearchInRange}
 use Rattle.std.specs.Ordering.{nat_cmp, ordering_index}
 use Rattle.std.proofs.lemmas.Cmp.{ranked}
 use Rattle.std.proofs.Math.Bool.{or-false}
-use Rattle.std.proofs.lemmas.Bool.{cases_eq, cases_lt, eq-eqb, ne_eqb}
+use Rattle.std.proofs.lemmas.Bool.{OnTrue_from, cases_lt}
 use Rattle.std.proofs.lemmas.Grind.{elements}
 use Rattle.std.proofs.lemmas.Bool.Decides.{nat_tests}
 use Rattle.std.proofs.lemmas.List.{get_or_default, set-get_or, set_split, take-append-drop}
@@ -16,7 +17,7 @@ use Rattle.sip_masks.proofs.RunLemmas.{none-set}
 use Rattle.sip_numbers.specs.Numbers.{has_bit, numbers_of}
 use Rattle.sip_numbers.specs.declared.numbers.Word.{Word}
 use Rattle.sip_numbers.specs.inner.Numbers.{AreWords, IsPlaceFor}
-use Rattle.sip_numbers.proofs.WordLemmas.{has-other, has-same, has-none, has-changed, test-put, test-taken}
+use Rattle.sip_numbers.proofs.WordLemmas.{has-none, has-changed, test-put, test-taken}
 
 -- What follows is of the place of a block among words in order.
 module _ {words : List Word} (block : ℕ) (in_order : AreWords words) where
@@ -33,14 +34,22 @@ module _ {words : List Word} (block : ℕ) (in_order : AreWords words) where
     after = λ k d from below. omega (arith, is d, in_order.rise at k d (omega (arith, from)) below);
   }
 
-  -- between a word of a lesser block and one of a greater block is the place of the block
-  pub left-out : {at : ℕ} (e : Word) → at ≤ length words → (at < length words → block < (get_or words at e).block) → (0 < at → (get_or words (at - 1) e).block < block) →
+  -- where the word before a place is of a lesser block, all before it are
+  pub lesser : (at : ℕ) → at ≢ 0 → at ≤ length words →
+      OnTrue (nat_lt (get_or words (at - 1) record { block = 0; bits = 0 }).block block) (AllWithin (λ word. word.block < block) words 0 at)
+  lesser at some within =
+      let none : Word = record { block = 0; bits = 0 } in
+      OnTrue_from (nat_lt (get_or words (at - 1) none).block block) (AllWithin (λ (word : Word). word.block < block) words 0 at)
+      (λ is k d from below. grind (arith, nat_tests, get_or_default, rise k (at - 1) none))
+
+  -- where the word at the place is besides of a greater block, no word is of the block
+  pub left-out : {at : ℕ} → AllWithin (λ word. word.block < block) words 0 at → at < length words → HoldsAt (λ word. block < word.block) words at →
       IsPlaceFor words block at at
-  left-out {at} e within high low = record {
-    within = within;
-    before = λ k d from below. grind (arith, get_or_default, low, rise k (at - 1) e);
+  left-out {at} less within greater = record {
+    within = omega arith;
+    before = less;
     there = λ k d from below. absurd (omega (arith, from, below));
-    after = λ k d from below. grind (arith, get_or_default, high, rise at k e);
+    after = λ k d from below. omega (arith, greater d, rise at k d from below);
   }
 
   -- a search by halves ends at the place of the block

@@ -1,7 +1,7 @@
 -- One word: what its bits tell of each number, after one of them is set or cleared, and from one of them on.
-use Rattle.std.proofs.Common.{◌≡◌, ◌≢◌, ℕ, ◌+◌, ◌-◌, ◌*◌, ◌/◌, ◌%◌, ◌^◌, ◌<◌, ◌≤◌, Bool, true, false, cond, ◌==◌, bit_and, bit_or, refl, sym, ap, ◌∙◌, subst, inl, inr, arith, w64}
+use Rattle.std.proofs.Common.{◌≡◌, ◌≢◌, ℕ, ◌+◌, ◌-◌, ◌*◌, ◌/◌, ◌%◌, ◌^◌, ◌<◌, ◌≤◌, Bool, true, false, cond, ◌==◌, bit_and, bit_or, refl, ◌∙◌, arith, w64}
 use Rattle.std.specs.Int.{trailing_zeros}
-use Rattle.std.proofs.lemmas.Bool.{and_right, cases_eq, cases_lt, eq-eqb, ne_eqb, false≢true}
+use Rattle.std.proofs.lemmas.Bool.{and_right}
 use Rattle.std.proofs.lemmas.Bool.Decides.{nat_tests}
 use Rattle.std.proofs.lemmas.Nat.Bits.{bit_at_set_same, bit_at_set_other, bit_at_clear_same, bit_at_clear_other}
 use Rattle.sip_masks.specs.Bits.{test}
@@ -11,14 +11,6 @@ use Rattle.sip_masks.proofs.WordLemmas.{test-shr}
 use Rattle.sip_numbers.specs.Numbers.{has_bit}
 use Rattle.sip_numbers.specs.declared.numbers.Word.{Word}
 use Rattle.sip_numbers.specs.inner.Numbers.{IsFirstOf}
-
--- a word of another block does not have the number
-pub has-other : (n : ℕ) (word : Word) → word.block ≢ n / 64 → has_bit n word ≡ false
-has-other n word other = rw (ne_eqb word.block (n / 64) other) refl
-
--- a word of the block of the number has it where its bit is set
-pub has-same : (n : ℕ) (word : Word) → word.block ≡ n / 64 → has_bit n word ≡ test word.bits (n % 64)
-has-same n word same = rw (eq-eqb word.block (n / 64) same) refl
 
 -- a word without bits does not have the number
 pub has-none : (n : ℕ) (word : Word) → word.bits ≡ 0 → has_bit n word ≡ false

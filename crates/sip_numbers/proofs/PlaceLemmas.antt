@@ -71,22 +71,20 @@ pub none-has : (n : ℕ) (words : List Word) → All (λ word. word.block ≢ n 
 unfolding numbers_of
 none-has n words others = list_any_none (has_bit n) words (λ k d below. grind (arith, nat_tests, others k d below))
 
--- What follows is of the place of a block, and of a number.
-module _ {block : ℕ} {words : List Word} {at next : ℕ} (place : IsPlaceFor words block at next) (n : ℕ) where
-  -- the words before the place do not have it, if its block is this one or a greater one
-  pub front : block ≤ n / 64 → numbers_of (take at words) n ≡ false
-  front reached = none-has n (take at words) (λ k d below is. grind (arith, elements, place.before k d))
+-- a number of the block of a word, or of a lesser one, is there only if it is in the words up to this one
+pub up-to : {words : List Word} {at : ℕ} (d : Word) → AreWords words → at < length words → (n : ℕ) → n / 64 ≤ (get_or words at d).block →
+    numbers_of words n ≡ numbers_of (take (at + 1) words) n
+unfolding numbers_of
+up-to {words} {at} d in_order within n reached =
+    ap (λ ws. numbers_of ws n) (sym (take-append-drop (at + 1) words)) ∙ list_any-append (has_bit n) (take (at + 1) words) (drop (at + 1) words)
+    ∙ rw (none-has n (drop (at + 1) words) (λ k e below is. grind (arith, elements, get_or_default, in_order.rise at (at + 1 + k) d)))
+    (or-false (numbers_of (take (at + 1) words) n))
 
-  -- if its block is this one or a lesser one, only the words up to the place can have it
-  pub up-to : n / 64 ≤ block → numbers_of words n ≡ numbers_of (take next words) n
-  unfolding numbers_of
-  up-to reached =
-      ap (λ ws. numbers_of ws n) (sym (take-append-drop next words)) ∙ list_any-append (has_bit n) (take next words) (drop next words)
-      ∙ rw (none-has n (drop next words) (λ k d below is. grind (arith, elements, place.after (next + k) d))) (or-false (numbers_of (take next words) n))
-
-  -- if its block is this one, only the words at the place can have it
-  others : n / 64 ≡ block → numbers_of (take at words ++ drop next words) n ≡ false
-  others same = none-has n (take at words ++ drop next words) (λ k d below is. grind (arith, cases_lt, elements, place.before k d, place.after (next + (k - at)) d))
+-- a number of the block of a place is in no other words
+others : {block : ℕ} {words : List Word} {at next : ℕ} → IsPlaceFor words block at next → (n : ℕ) → n / 64 ≡ block →
+    numbers_of (take at words ++ drop next words) n ≡ false
+others {words = words} {at} {next} place n same =
+    none-has n (take at words ++ drop next words) (λ k d below is. grind (arith, cases_lt, elements, place.before k d, place.after (next + (k - at)) d))
 
 -- where one test is the other but for the number, at which it has the value
 abbrev pub Changes : ℕ → Bool → (ℕ → Bool) → (ℕ → Bool) → Type 0

@@ -17,7 +17,7 @@ use Rattle.sip_masks.proofs.RunLemmas.{none-set}
 use Rattle.sip_numbers.specs.Numbers.{has_bit, numbers_of}
 use Rattle.sip_numbers.specs.declared.numbers.Word.{Word}
 use Rattle.sip_numbers.specs.inner.Numbers.{AreWords, IsPlaceFor}
-use Rattle.sip_numbers.proofs.WordLemmas.{has-none, has-changed, test-put, test-taken}
+use Rattle.sip_numbers.proofs.WordLemmas.{has-none, test-put, test-taken}
 
 -- What follows is of the place of a block among words in order.
 module _ {words : List Word} (block : ℕ) (in_order : AreWords words) where
@@ -120,9 +120,8 @@ pub put-new : (number : ℕ) (words : List Word) (at : ℕ) → Changes number t
     (numbers_of (insert words at record { block = number / 64; bits = 1 * 2 ^ (number % 64) % 18446744073709551616 }))
 unfolding numbers_of
 put-new number words at n =
-    let none : Word = record { block = number / 64; bits = 0 } in
     sym (list_any-IsPermutation (has_bit n) _ _ (IsPermutation-insert words at _))
-    ∙ grind (arith, nat_tests, has-changed number n none _ true refl refl (λ i below. test-put 0 (number % 64) i (omega arith)), has-none n none refl)
+    ∙ grind (arith, nat_tests, test-put 0 (number % 64) (n % 64) (omega arith), none-set 0 (n % 64) refl)
 
 -- What follows is of the word of the block, and of bits that differ from its bits at most at the place of the number.
 module _ (number : ℕ) {words : List Word} {at : ℕ} (place : IsPlaceFor words (number / 64) at (at + 1)) (word : Word) (read : word ≡ get_or words at word)
@@ -135,7 +134,7 @@ module _ (number : ℕ) {words : List Word} {at : ℕ} (place : IsPlaceFor words
       let its_block : other.block ≡ number / 64 = rw (← its) at (place.there at other (omega arith) (omega arith)) in
       let block : word.block ≡ number / 64 = rw (← read) at (place.there at word (omega arith) (omega arith)) in
       has-set n words at _ within
-      ∙ grind (arith, nat_tests, has-at n words at word within read, has-changed number n word record { block = other.block; bits = bits } value block its_block told, rw (← add-one) at (others place number refl))
+      ∙ grind (arith, nat_tests, has-at n words at word within read, told (n % 64) (omega arith), rw (← add-one) at (others place number refl))
 
   -- likewise without the word, where none of these bits is set
   pub removed : bits ≡ 0 → Changes number value (numbers_of words) (numbers_of (remove words at))

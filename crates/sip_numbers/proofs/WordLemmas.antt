@@ -27,11 +27,6 @@ pub test-taken : (bits place i : ℕ) → place < 64 → i < 64 →
 unfolding test
 test-taken bits place i small below = grind (arith, nat_tests, bit_at_clear_same w64 bits place small, bit_at_clear_other w64 bits place small i below)
 
--- where two words are of the block of a number, and their bits differ at most at its place, they tell the same of all other numbers
-pub has-changed : (number n : ℕ) (old new : Word) (value : Bool) → old.block ≡ number / 64 → new.block ≡ number / 64 →
-    ((i : ℕ) → i < 64 → test new.bits i ≡ cond (i == number % 64) value (test old.bits i)) → has_bit n new ≡ cond (n == number) value (has_bit n old)
-has-changed number n old new value was is told = grind (arith, nat_tests, told (n % 64) (omega arith))
-
 -- the bits of the word without those of lesser numbers than `from`
 abbrev pub bits_from : Word → ℕ → ℕ
 bits_from word from = shl (from - 64 * word.block) (word.bits / 2 ^ (from - 64 * word.block))

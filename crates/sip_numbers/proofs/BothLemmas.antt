@@ -10,7 +10,7 @@ use Rattle.sip_masks.proofs.BitLemmas.{test-and}
 use Rattle.sip_numbers.specs.Numbers.{IsFirstInBoth, NoneInBoth, has_bit, numbers_of}
 use Rattle.sip_numbers.specs.declared.numbers.Word.{Word}
 use Rattle.sip_numbers.specs.inner.Numbers.{AreWords, IsFirstOf}
-use Rattle.sip_numbers.proofs.PlaceLemmas.{place-of, up-to}
+use Rattle.sip_numbers.proofs.PlaceLemmas.{up-to}
 
 -- whether the second set has the number, and the third has not
 abbrev pub wanted : List Word → List Word → ℕ → Bool
@@ -44,11 +44,10 @@ module _ (words other but : List Word) (from at : ℕ) {word : Word} (d : Word) 
   first-left {number} in_order first =
       let has = and_parts (has_bit number word) (wanted other but number) (sym (has-left number) ∙ first.is) in
       let block : word.block ≡ number / 64 = grind (arith, nat_tests, has.0) in
-      let place = place-of word.block in_order within (λ e. ap (λ (w : Word). w.block) (get_or_default words at e d within ∙ sym is)) in
       record {
         in_one = list_any_at (has_bit number) words at d within (ap (has_bit number) (sym is) ∙ has.0);
         in_other = has.1;
         after = first.after;
         none_before = λ n after before has.
-            more n after (first.none_before n after before) (sym (up-to place n (omega (arith, before, block))) ∙ has);
+            more n after (first.none_before n after before) (sym (up-to d in_order within n (omega (arith, before, block, ap (λ (w : Word). w.block) is))) ∙ has);
       }

@@ -1,6 +1,7 @@
 //! Sets of numbers.
-ghost use Rattle.std.specs.Prelude.{◌≡◌, ◌==◌, ◌&&◌, ◌<◌, ◌≤◌, ◌+◌, ◌/◌, ◌%◌, ◌^◌, ℕ, cond, not, true, false, IfSome, IfNone, OnOk, OnErr, MatchResult};
+ghost use Rattle.std.specs.Prelude.{◌≡◌, ◌==◌, ◌&&◌, ◌<◌, ◌≤◌, ◌+◌, ◌/◌, ◌%◌, ◌^◌, ℕ, cond, not, true, false, length, IfSome, IfNone, OnOk, OnErr, MatchResult};
 ghost use Rattle.std.specs.Bool.{OnTrue};
+ghost use Rattle.std.specs.List.{AllWithin};
 ghost use Rattle.sip_masks.specs.Bits.{test};
 ghost use Rattle.sip_numbers.specs.Numbers.{IsFirstInBoth, NoneInBoth, has_bit, numbers_of};
 ghost use Rattle.sip_numbers.specs.inner.Numbers.{AreWords, IsFirstOf, IsPlaceFor};
@@ -127,6 +128,7 @@ fn next_but(words: &[Word], other: &[Word], but: &[Word], from: u64) -> Option<u
 
 /// The bits of the word of this block. None of them is set where there is no such word. It is looked for at `near` first, and `near` is left after it.
 #[inline(always)]
+#[tactic(auto, using(crate::proofs::PlaceLemmas::told))]
 fn bits_of(words: &[Word], block: u64, near: &mut usize) -> u64
     requires { AreWords words.now }
     ensures { (n : ℕ) → n / 64 ≡ block → test result (n % 64) ≡ numbers_of words.now n }
@@ -151,26 +153,20 @@ fn place_for(words: &[Word], block: u64, near: usize) -> Result<usize, usize>
 {
     match words.get(near) {
         Some(word) if word.block == block => Ok(near),
-        _ if is_left_out(words, block, near) => Err(near),
+        Some(word) if block < word.block && is_after(words, block, near) => Err(near),
+        None if near == words.len() && is_after(words, block, near) => Err(near),
         _ => words.binary_search_by_key(&block, |word| word.block),
     }
 }
 
-/// Whether the words before the place and at it tell that no word is of this block, and that it would stand there.
-fn is_left_out(words: &[Word], block: u64, place: usize) -> bool
-    requires { AreWords words.now }
-    ensures { OnTrue result (IsPlaceFor words.now block place place) }
+/// Whether the words before the place are of lesser blocks than this one.
+#[tactic(auto, using(crate::proofs::PlaceLemmas::lesser))]
+fn is_after(words: &[Word], block: u64, place: usize) -> bool
+    requires words { AreWords words.now }
+    requires place { place ≤ length words.now }
+    ensures { OnTrue result (AllWithin (λ word. word.block < block) words.now 0 place) }
 {
-    if place > words.len() {
-        return false;
-    }
-    if place < words.len() && words[place].block <= block {
-        return false;
-    }
-    if place > 0 && block <= words[place - 1].block {
-        return false;
-    }
-    true
+    place == 0 || words[place - 1].block < block
 }
 
 /// The place where the word of this block stands if no block is left out before it.

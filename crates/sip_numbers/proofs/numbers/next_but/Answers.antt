@@ -1,16 +1,12 @@
-use Rattle.std.proofs.Common.{◌∙◌, arith, refl, sym}
-use Rattle.std.proofs.lemmas.Bool.{false≢true}
+use Rattle.std.proofs.Common.{arith, refl}
+use Rattle.std.proofs.lemmas.Grind.{elements}
 use Rattle.sip_numbers.proofs.BothLemmas.{first-left, more}
-use Rattle.sip_numbers.proofs.PlaceLemmas.{front}
+use Rattle.sip_numbers.proofs.PlaceLemmas.{none-has}
 use Rattle.sip_numbers.proofs.numbers.next_but.Goals as goal
-use Rattle.sip_numbers.proofs.numbers.next_but.Goals.{in-Ok, in-Ok-2}
 
 -- the words before the first place are of lesser blocks
 pub loop-at-init : goal.loop-at-init
-loop-at-init c n after has _ = elim c.match-place_for.branch [
-  | in-Ok w ↦ false≢true (sym (rw w.start-is (front w.in-Ok.ensures n (omega (arith, after)))) ∙ has)
-  | in-Ok-2 w ↦ false≢true (sym (rw w.start-is (front w.in-Ok.ensures n (omega (arith, after)))) ∙ has)
-]
+loop-at-init c n after has _ = grind (arith, elements, none-has)
 
 -- a number that is left of the word is the first one
 pub returns-in-Some-clause-found : goal.returns-in-Some-clause-found

@@ -18,7 +18,7 @@ mod queue;
 mod strikes;
 
 use crate::accounts::account::{
-    Account, EMPTY, debt_for, debts, earliest_must, expired, find, find_some, gained_and_expired,
+    Account, EMPTY, debt_for, debts, earliest_must, expired, find, find_some, gained,
     paid_and_expired, place_for, same,
 };
 use crate::accounts::gains::{Gains, Seek, drop_first};
@@ -189,9 +189,8 @@ impl Accounts {
     {
         let account = self.rows[row];
         let place = place_for(&mut self.gains, &self.strikes, account, debt, None)?;
-        let gains = &self.gains;
-        let strikes = &mut self.strikes;
-        self.rows[row] = gained_and_expired(gains, strikes, account, debt, place, moment)?;
+        let grown = gained(&self.gains, &mut self.strikes, account, debt, place)?;
+        self.rows[row] = expired(&self.gains, &mut self.strikes, grown, moment)?;
         Ok(())
     }
 

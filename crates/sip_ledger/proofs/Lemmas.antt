@@ -6,7 +6,7 @@ pub use Rattle.sip_ledger.proofs.account.FindLemmas.{first-account, first-all, f
 pub use Rattle.sip_ledger.proofs.account.ToldLemmas.{AreAt, at-apart, at-more, end-other, end-same, IsLeastTo, IsToldTo, least-first, least-first_due, least-found, least-last, least-passed, told-more, told-none}
 pub use Rattle.sip_ledger.proofs.account.WithoutLemmas.{before-start, first-gain, more-gain, new-gain, without-first, without-last, without-middle}
 pub use Rattle.sip_ledger.proofs.debts.OwedLemmas.{widened-run}
-pub use Rattle.sip_ledger.proofs.gains.LeftLemmas.{entries_long, gains-dropped, gains-let_go, gains-more, gains-same, held-updated, least-held, left-kept, owed-left, range-first, range-none, span-held}
+pub use Rattle.sip_ledger.proofs.gains.LeftLemmas.{entries_long, gains-dropped, gains-let_go, gains-more, gains-same, held_updated, least-held, left-kept, owed-left, range-first, range-none, span-held}
 pub use Rattle.sip_ledger.proofs.gains.QueueLemmas.{IsGathered, IsSettled, queue-under, queues-changed, queues-inserted, queues-later, queues-none, stands-more, stands-there}
 pub use Rattle.sip_ledger.proofs.lists.EachLemmas.{changing, changing-more, IsKeptTo, kept-all, kept-more, rise-above, rise-few, on_ok}
 pub use Rattle.sip_ledger.proofs.rows.PaidLemmas.{account-there, ArePaidTo, gained-grown, gained-more, gained-over, HaveGained, IsExpiring, none-past, paid-grown, paid-next}

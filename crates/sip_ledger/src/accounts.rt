@@ -235,6 +235,7 @@ impl Accounts {
     }
 
     /// The least deadline of what the row must send.
+    #[tactic(auto, using(crate::proofs::rows::SeenLemmas::first_of_rows))]
     pub fn earliest_must(&self, row: usize) -> Option<u64>
         requires { row < length self.now }
         ensures { result ≡ earliest (debt_deadlines (owed_in self.now row)) }
@@ -252,6 +253,7 @@ impl Accounts {
     }
 
     /// Whether two rows owe the same.
+    #[tactic(auto, using(crate::proofs::rows::SeenLemmas::first_of_rows))]
     pub fn same(&self, row: usize, other: usize) -> bool
         requires row { row < length self.now }
         requires other { other < length self.now }
@@ -311,6 +313,7 @@ impl Accounts {
     }
 
     /// What the row owes.
+    #[tactic(auto, using(crate::proofs::rows::SeenLemmas::first_of_rows))]
     fn debts(&self, alloc: Global, row: usize) -> Result<Vec<Debt>, AllocError>
         requires { row < length self.now }
         ensures { IfOk result (λ debts. debts.items ≡ owed_in self.now row) }

@@ -4,16 +4,15 @@ use Rattle.std.specs.BTreeSet.{UpdatesBy as PairUpdates}
 use Rattle.std.specs.Map.{lookup}
 use Rattle.std.specs.Option.{unwrap_or}
 use Rattle.std.specs.Ordering.{nat_cmp}
-use Rattle.std.proofs.lemmas.Bool.{cond_both}
 use Rattle.std.proofs.lemmas.Option.{IfSome_then}
-use Rattle.sip_ledger.proofs.gains.LeftLemmas.{held-updated}
-use Rattle.sip_ledger.proofs.Words.{BTreeSet, pair_cmp, ◌≡◌, ◌≢◌, ◌<◌, ◌≤◌, ◌==◌, ◌&&◌, ℕ, Bool, true, false, cond, List, [], Option, None, Some, IfSome, sym, arith, nat_tests, true≢false, AreQueues, Err, HasLeft, IsQueue, Ok, OnErr, OnOk, Result, Stands, holds}
+use Rattle.sip_ledger.proofs.gains.LeftLemmas.{held_updated}
+use Rattle.sip_ledger.proofs.Words.{BTreeSet, cond_both, pair_cmp, ◌≡◌, ◌≢◌, ◌<◌, ◌≤◌, ◌==◌, ◌&&◌, ℕ, Bool, true, false, cond, List, [], Option, None, Some, IfSome, sym, arith, nat_tests, true≢false, AreQueues, Err, HasLeft, IsQueue, Ok, OnErr, OnOk, Result, Stands, holds}
 
 -- where one place more is left that is not before the end, queues are queues still
 pub queues-later : {s n : BTreeSet (ℕ × ℕ)} {end later : ℕ} {queues : BTreeMap ℕ (List (ℕ × ℕ))} (message place : ℕ) →
     PairUpdates pair_cmp (pair_cmp (message, place)) s n true → end ≤ place → place < later → AreQueues s.keys end queues → AreQueues n.keys later queues
 queues-later {s} {n} {queues = queues} message place updates after within were =
-    let more = held-updated s n message place true updates in
+    let more = held_updated s n message place true updates in
     record {
       below = λ m k left. grind (arith, nat_tests, more m k, were.below m k);
       each = λ key. IfSome_then (lookup (is_at (nat_cmp key)) queues.entries) (were.each key) (λ queue was. record {
@@ -28,7 +27,7 @@ pub queues-none : {s n : BTreeSet (ℕ × ℕ)} {end later : ℕ} {old queues : 
     PairUpdates pair_cmp (pair_cmp (message, place)) s n true → queues.entries ≡ [] → end ≤ later → place < later → AreQueues s.keys end old →
     AreQueues n.keys later queues
 queues-none {s} {n} message place updates none more within were =
-    record { below = λ m k left. grind (arith, nat_tests, held-updated s n message place true updates m k, were.below m k); each = λ key. rw none tt }
+    record { below = λ m k left. grind (arith, nat_tests, held_updated s n message place true updates m k, were.below m k); each = λ key. rw none tt }
 
 -- what stands under a key, or nothing, is a queue
 pub queue-under : {pairs : List (ℕ × ℕ)} {end : ℕ} {queues : BTreeMap ℕ (List (ℕ × ℕ))} (key : ℕ) (found : Option (List (ℕ × ℕ))) →
@@ -59,11 +58,11 @@ queues-inserted key queue (Err e) changed same is were = record { below = were.b
 
 -- where a pair comes, all that stood in pairs stand there still
 pub stands-more : (s n : BTreeSet (ℕ × ℕ)) (place message : ℕ) → PairUpdates pair_cmp (pair_cmp (place, message)) s n true → (m : ℕ) → Stands s.keys m → Stands n.keys m
-stands-more s n place message updates m was = (was.0, grind (arith, nat_tests, held-updated s n place message true updates was.0 m, was.1))
+stands-more s n place message updates m was = (was.0, grind (arith, nat_tests, held_updated s n place message true updates was.0 m, was.1))
 
 -- the message of a pair that comes stands there
 pub stands-there : (s n : BTreeSet (ℕ × ℕ)) (place message : ℕ) → PairUpdates pair_cmp (pair_cmp (place, message)) s n true → Stands n.keys message
-stands-there s n place message updates = (place, grind (arith, nat_tests, held-updated s n place message true updates place message))
+stands-there s n place message updates = (place, grind (arith, nat_tests, held_updated s n place message true updates place message))
 
 -- the messages below `from` that pass the test and are left stand in the queue, which is one if the old one is
 pub record IsGathered (pairs old : List (ℕ × ℕ)) (test : ℕ → Bool) (from : ℕ) (queue : List (ℕ × ℕ)) : Type 0 where

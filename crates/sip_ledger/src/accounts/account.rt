@@ -68,6 +68,7 @@ pub(crate) fn owes(gains: &Gains, strikes: &[Strike], account: Account, place: u
 }
 
 /// The first place from this one on at which the account owes something, or its end.
+#[tactic(auto, using(crate::proofs::account::FindLemmas::owed_at_place))]
 fn next(gains: &Gains, strikes: &[Strike], account: Account, from: usize) -> usize
     requires gained { AreGains gains.now }
     requires account { IsAccount gains.now strikes.now account }
@@ -497,6 +498,7 @@ pub(crate) fn earliest_must(gains: &Gains, strikes: &[Strike], account: Account)
 }
 
 /// The least deadline of what the account must send, by the index.
+#[tactic(auto, using(crate::proofs::account::WithoutLemmas::lost_at_place))]
 #[inline(never)]
 fn least_must(gains: &Gains, strikes: &[Strike], account: Account) -> Option<u64>
     requires gained { AreGains gains.now }

@@ -3,7 +3,7 @@ pub use Rattle.std.proofs.Common.{Bool, List, OnOk, [], ap, append-nil, ap₂, a
 pub use Rattle.std.proofs.Math.Bool.{and-false, and-true, or-false, or-true, or_assoc}
 pub use Rattle.std.proofs.Math.Nat.{add-mod_right, mod-add-mod, mod-eq_of_lt}
 pub use Rattle.std.proofs.Math.Seq.{drop-append_seam, take-append_seam, take-length}
-pub use Rattle.std.proofs.lemmas.Bool.{OnFalse_from, and_right, cases_eq, cases_lt, eq-eqb, eqb-true, false_from_ne_true, false≢true, le-leb, le-ltb, leb-true, lt-leb, lt-ltb, ltb-false, ne_eqb, or_parts, or_right, true≢false}
+pub use Rattle.std.proofs.lemmas.Bool.{OnFalse_from, and_right, cases_eq, cases_lt, cond_both, eq-eqb, eqb-true, false_from_ne_true, false≢true, le-leb, le-ltb, leb-true, lt-leb, lt-ltb, ltb-false, ne_eqb, or_parts, or_right, true≢false}
 pub use Rattle.std.proofs.lemmas.Bool.Decides.{nat_tests}
 pub use Rattle.std.proofs.lemmas.Grind.{common_steps, flat_map-append}
 pub use Rattle.std.proofs.lemmas.List.{append_assoc, append_cancel_left, drop-append-le, drop-map, drop-set-add, drop-take, drop_all, drop_min, drop_more, get_or-append_right, get_or-drop, get_or-map, get_or-set_other, get_or-set_same, get_or-take, get_or_append_left, get_or_default, get_or_past, get_or_push, length-append, length-drop, length-map, length-replicate, length-set, length-take, length-take-le, length_push, map-append, map-set, replicate_more, same_lists, set_split, take-append-drop, take-append-le, take-map, take-set-le, take-take, take_all, take_at, take_more, take_rest}

@@ -18,7 +18,7 @@ mod queue;
 mod strikes;
 
 use crate::accounts::account::{
-    Account, EMPTY, debt_for, debts, earliest_must, expired, find, find_some, gained_and_expired,
+    Account, EMPTY, debt_for, debts, earliest_must, expired, find, find_some, gained,
     paid_and_expired, place_for, same,
 };
 use crate::accounts::gains::{Gains, Seek, drop_first};
@@ -189,9 +189,8 @@ impl Accounts {
     {
         let account = self.rows[row];
         let place = place_for(&mut self.gains, &self.strikes, account, debt, None)?;
-        let gains = &self.gains;
-        let strikes = &mut self.strikes;
-        self.rows[row] = gained_and_expired(gains, strikes, account, debt, place, moment)?;
+        let grown = gained(&self.gains, &mut self.strikes, account, debt, place)?;
+        self.rows[row] = expired(&self.gains, &mut self.strikes, grown, moment)?;
         Ok(())
     }
 
@@ -236,6 +235,7 @@ impl Accounts {
     }
 
     /// The least deadline of what the row must send.
+    #[tactic(auto, using(crate::proofs::rows::SeenLemmas::first_of_rows))]
     pub fn earliest_must(&self, row: usize) -> Option<u64>
         requires { row < length self.now }
         ensures { result ≡ earliest (debt_deadlines (owed_in self.now row)) }
@@ -253,6 +253,7 @@ impl Accounts {
     }
 
     /// Whether two rows owe the same.
+    #[tactic(auto, using(crate::proofs::rows::SeenLemmas::first_of_rows))]
     pub fn same(&self, row: usize, other: usize) -> bool
         requires row { row < length self.now }
         requires other { other < length self.now }
@@ -312,6 +313,7 @@ impl Accounts {
     }
 
     /// What the row owes.
+    #[tactic(auto, using(crate::proofs::rows::SeenLemmas::first_of_rows))]
     fn debts(&self, alloc: Global, row: usize) -> Result<Vec<Debt>, AllocError>
         requires { row < length self.now }
         ensures { IfOk result (λ debts. debts.items ≡ owed_in self.now row) }

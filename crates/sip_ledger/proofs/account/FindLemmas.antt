@@ -1,7 +1,6 @@
 -- The first debt of an account that a send at the moment t pays, of one message or of those that pass a test: k and `at` are places of gains.
-use Rattle.sip_ledger.proofs.Words.{◌≡◌, ◌≢◌, ℕ, ◌<◌, ◌≤◌, ◌==◌, ◌&&◌, Bool, true, false, not, List, length, ◌+◌, refl, sym, ap, ◌∙◌, arith, All, All-weaker, IfNone, IfSome, IsTrue, MatchOption, Option, None, Some, nat_le, cases_lt, lt-ltb, true≢false, nat_tests, Entry, Account, Gains, Strike, IsFirstPaid, PaysSome, is_payable, AreGains, IsAccount, IsFirstHeld, IsFirstPaying, IsFirstPayable, IsUndropped, IsWithout, PaysSomeAt, account_debts, entries_of, entry_at, must_at, owes_at, pays_at, sooner, IsNextLeft, holds, ap₂, and-false, and_right, cases_eq, eq-eqb, le-leb, lt-leb, ne_eqb, paid_by, is_left, is_struck, strikes_of}
+use Rattle.sip_ledger.proofs.Words.{◌≡◌, ◌≢◌, ℕ, ◌<◌, ◌≤◌, ◌==◌, ◌&&◌, Bool, true, false, not, List, length, ◌+◌, refl, sym, ap, ◌∙◌, arith, All, All-weaker, IfNone, IfSome, IsTrue, MatchOption, Option, None, Some, nat_le, cases_lt, lt-ltb, true≢false, nat_tests, Entry, Account, Gains, Strike, IsFirstPaid, PaysSome, is_payable, AreGains, IsAccount, IsFirstHeld, IsFirstPaying, IsFirstPayable, IsUndropped, IsWithout, PaysSomeAt, account_debts, entries_of, entry_at, must_at, owes_at, pays_at, sooner, IsNextLeft, holds, ap₂, and-false, and_right, cases_eq, eq-eqb, le-leb, lt-leb, ne_eqb, paid_by, is_left, is_struck, strikes_of, eqb-true, subst}
 use Rattle.std.specs.Option.{option_eq}
-use Rattle.std.proofs.Common.{eqb-true, subst}
 use lib.Dec.{eqb}
 use Rattle.sip_numbers.specs.Numbers.{IsFirstInBoth}
 use Rattle.sip_ledger.proofs.debts.ListedLemmas.{listed-each}
@@ -74,7 +73,7 @@ unfolding owes_at
 owes-inside gains strikes a k low high = grind (arith, le-leb, lt-ltb)
 
 -- lemmas for the prover under one name: whether an account owes what was gained at a place
-pub ruleset owed_at_place = (past-end, before-start, owes-inside, kept-start)
+pub ruleset owed_at_place = (nat_tests, cases_eq, cases_lt, true≢false, past-end, before-start, owed-left, owes-inside, kept-start)
 
 -- a gain that a send pays is of its message, and not past
 pays-parts : (message t : ℕ) (entry : Entry) → (entry.message == message && nat_le t entry.deadline) ≡ true → (entry.message ≡ message) × (t ≤ entry.deadline)

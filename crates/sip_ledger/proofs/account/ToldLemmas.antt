@@ -89,13 +89,10 @@ module _ {gains : Gains} {strikes : List Strike} {one other : Account} (is : IsA
       let rest = back (owes_at gains strikes one) (must_at gains one) (entries_of gains) (at + 1) in
       let rest_beside = back (owes_at gains strikes other) (must_at gains other) (entries_of gains) (beside + 1) in
       -- before the places both owe the same debts, so if all are the same, so are the debts at the places
-      apart (first (append_cancel_left are.debts (debt_of (entry_at (entries_of gains) at) (must_at gains one at) ∷ rest)
+      let equal = append_cancel_left are.debts (debt_of (entry_at (entries_of gains) at) (must_at gains one at) ∷ rest)
       (debt_of (entry_at (entries_of gains) beside) (must_at gains other beside) ∷ rest_beside)
-      (sym (told-here is are.told inside) ∙ same ∙ told-here is_other are.told_beside inside_beside)))
-    where
-      -- equal lists of debts have the same first debt
-      first : {d d' : Debt} {ds ds' : List Debt} → d ∷ ds ≡ d' ∷ ds' → d ≡ d'
-      first equal = cc
+      (sym (told-here is are.told inside) ∙ same ∙ told-here is_other are.told_beside inside_beside) in
+      apart (cc equal)
 
   -- where one account is at its end, both owe the same exactly if the other one is at its end too
   pub end-same : {at beside : ℕ} → AreAt gains strikes one other at beside → at ≡ one.end → IsTrue (beside == other.end) ↔ (account_debts gains strikes one ≡ account_debts gains strikes other)
@@ -124,7 +121,7 @@ unfolding account_debts owes_at
 alike-debts gains strikes one other start end soft own = grind (arith, nat_tests, listed-same, soft-must)
 
 -- lemmas for the prover under one name: at which places two accounts owe the same, and whether they do so at all
-pub ruleset shared_by_places = (alike-struck, must-alike, alike-debts, kept-start)
+pub ruleset shared_by_places = (alike-struck, must-alike, alike-debts, kept-start, told-none)
 
 -- whether one of the debts must be sent, and until this moment
 unfoldable pub has_due : ℕ → List Debt → Bool

@@ -3,10 +3,10 @@ use Rattle.sip_ledger.proofs.Words.{leb-true, nat_tests, ◌-◌, ◌<◌, ◌�
 use Rattle.sip_ledger.proofs.debts.ListedLemmas.{listed-none}
 
 -- where one pair comes or goes, all others are held as before
-pub held-updated : (s n : BTreeSet (ℕ × ℕ)) (message place : ℕ) (here : Bool) → UpdatesBy pair_cmp (pair_cmp (message, place)) s n here →
+pub held_updated : (s n : BTreeSet (ℕ × ℕ)) (message place : ℕ) (here : Bool) → UpdatesBy pair_cmp (pair_cmp (message, place)) s n here →
     (m k : ℕ) → holds n.keys m k ≡ cond (m == message && k == place) here (holds s.keys m k)
 unfolding holds
-held-updated s n message place here updates m k =
+held_updated s n message place here updates m k =
     let same : is_eq (pair_cmp (message, place) (m, k)) ≡ (m == message && k == place) = grind (arith, nat_tests) in
     updates.0 (m, k) ∙ ap (λ x. cond x here (holds s.keys m k)) same
 

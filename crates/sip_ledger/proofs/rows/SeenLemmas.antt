@@ -19,15 +19,11 @@ on-err (Err e) P is p = p
 
 -- What follows is of accounts, and the debts as which contracts see them.
 module _ {gains : Gains} {strikes : List Strike} {rows : List Account} {seen : List (List Debt)} where
-  -- a row of the list that contracts see is the row of one of the accounts
-  pub row-inside : (row : ℕ) → AreAccounts gains strikes rows → accounts_debts gains strikes rows ≡ seen → row < length seen → row < length rows
-  row-inside row are view inside = omega (arith, inside, ap length view, length-map rows (account_debts gains strikes))
-
   -- what stands in a row is an account, and its debts are those that contracts see there
   pub account-at : (row : ℕ) (a : Account) → AreAccounts gains strikes rows → accounts_debts gains strikes rows ≡ seen → row < length seen → a ≡ get_or rows row a →
       IsAccount gains strikes a × (account_debts gains strikes a ≡ owed_in seen row)
   account-at row a are view inside is =
-      let within = row-inside row are view inside in (
+      let within : row < length rows = omega (arith, inside, ap length view, length-map rows (account_debts gains strikes)) in (
         subst (IsAccount gains strikes) (sym is) (All-get_or (IsAccount gains strikes) rows row a within are.each),
         ap (account_debts gains strikes) is ∙ sym (get_or-map (account_debts gains strikes) rows row a [] within) ∙ ap (λ owes. owed_in owes row) view,
       )
@@ -100,13 +96,13 @@ can-pay gains strikes a message t (Some place) is some none = grind (arith, nat_
 can-pay gains strikes a message t None is some none = grind (arith, nat_tests, list_any_none, All-weaker, false_from_ne_true, unpaid-account)
 
 -- lemmas for the prover under one name: what contracts see of rows of which one changes or comes
-pub ruleset of_changed_row = (account-at, map-set, map-append, All-set, All-push, length-map, empty-account, empty-debts)
+pub ruleset of_changed_row = (nat_tests, common_steps, account-at, map-set, map-append, All-set, All-push, length-map, empty-account, empty-debts)
 
 -- lemmas for the prover under one name: what contracts see of rows, by their accounts
 pub ruleset of_rows = (length-map, account-at, All-cons, All-nil, can-pay, on-err, on-error, over-to, unchanged, All-take, take-map, All-drop, drop-map, drop_min)
 
 -- lemmas for the prover under one name: what a row owes first
-pub ruleset first_of_rows = (account-at, length-map, empty-debts, entries_long, kept-start, told-start)
+pub ruleset first_of_rows = (nat_tests, common_steps, account-at, length-map, empty-debts, entries_long, kept-start, told-start)
 
 -- a send at moment 0 can pay each debt of its message
 pub payable-owes : (message : ℕ) (debts : List Debt) → list_any (is_payable message 0) debts ≡ owes_message message debts

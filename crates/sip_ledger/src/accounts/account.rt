@@ -68,6 +68,7 @@ pub(crate) fn owes(gains: &Gains, strikes: &[Strike], account: Account, place: u
 }
 
 /// The first place from this one on at which the account owes something, or its end.
+#[tactic(auto, using(crate::proofs::account::FindLemmas::owed_at_place))]
 fn next(gains: &Gains, strikes: &[Strike], account: Account, from: usize) -> usize
     requires gained { AreGains gains.now }
     requires account { IsAccount gains.now strikes.now account }
@@ -481,27 +482,6 @@ pub(crate) fn gained(
     })
 }
 
-/// The account with what was gained at the place, after all that it owes, and without what is past at the moment. The strikes that were there stay.
-pub(crate) fn gained_and_expired(
-    gains: &Gains,
-    strikes: &mut Strikes,
-    account: Account,
-    debt: Debt,
-    place: usize,
-    moment: u64,
-) -> Made
-    requires gained { AreGains gains.now }
-    requires account { IsAccount gains.now strikes.old.items account }
-    requires next { IsNextGain gains.now strikes.old.items account debt place }
-    ensures kept { take (length strikes.old.items) strikes.new.items ≡ strikes.old.items }
-    ensures account { IfOk result (IsAccount gains.now strikes.new.items) }
-    ensures debts { IfOk result (λ new. account_debts gains.now strikes.new.items new ≡ filter (counts_at moment) (account_debts gains.now strikes.old.items account ++ debt ∷ [])) }
-{
-    let grown = gained(gains, strikes, account, debt, place)?;
-    let left = expired(gains, strikes, grown, moment)?;
-    Ok(left)
-}
-
 /// The least deadline of what the account must send. The first debt is looked at before the index is asked.
 #[tactic(auto, using(crate::proofs::account::ToldLemmas::led_by_start))]
 #[inline(always)]
@@ -518,6 +498,7 @@ pub(crate) fn earliest_must(gains: &Gains, strikes: &[Strike], account: Account)
 }
 
 /// The least deadline of what the account must send, by the index.
+#[tactic(auto, using(crate::proofs::account::WithoutLemmas::lost_at_place))]
 #[inline(never)]
 fn least_must(gains: &Gains, strikes: &[Strike], account: Account) -> Option<u64>
     requires gained { AreGains gains.now }

@@ -201,7 +201,7 @@ impl Places {
 }
 
 /// Takes the pair of the message and the place out, if it is there, and tells whether it was.
-#[tactic(auto, unfolding(crate::specs::inner::Places::holds))]
+#[tactic(auto, using(crate::proofs::gains::LeftLemmas::held_updated), unfolding(crate::specs::inner::Places::holds))]
 pub(crate) fn remove(pairs: &mut BTreeSet<(u64, u64)>, message: u64, place: u64) -> bool
     ensures stood { result ≡ holds pairs.old.keys message place }
     ensures taken { (m k : ℕ) → holds pairs.new.keys m k ≡ cond (m == message && k == place) false (holds pairs.old.keys m k) }

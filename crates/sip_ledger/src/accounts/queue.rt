@@ -62,6 +62,7 @@ impl Queue {
     }
 
     /// Puts the message in at the place.
+    #[tactic(auto, using(crate::proofs::gains::LeftLemmas::held_updated))]
     pub(crate) fn put(&mut self, place: u64, message: u64) -> Result<(), AllocError>
         ensures { OnOk result ((b m : ℕ) → holds self.new b m ≡ cond (b == place && m == message) true (holds self.old b m)) }
     {

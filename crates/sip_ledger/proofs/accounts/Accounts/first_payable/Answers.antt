@@ -1,13 +1,10 @@
-use Rattle.sip_ledger.proofs.Lemmas.{account-at, Debt, entries_of, entry_at, first-account, IsFirstPaid, left-kept, List, None, none-account, numbers_of, owed-left, PaysSome, Some, subst}
+use Rattle.sip_ledger.proofs.Lemmas.{account-at, arith, Debt, entries_of, entry_at, first-account, IsFirstPaid, left-kept, List, None, none-account, numbers_of, owed-left, PaysSome, Some, subst}
 use Rattle.sip_ledger.proofs.accounts.Accounts.first_payable.Goals as goal
 use Rattle.sip_ledger.proofs.accounts.Accounts.first_payable.Goals.{in-Some, in-None}
 
 -- what an account owes is kept
 pub entry-requires-clause-kept : goal.entry-requires-clause-kept
-entry-requires-clause-kept c =
-    let s = c.self.inside in
-    let found = rw (c.in-Some.is, c.deref.ensures.value) at c.in_ok-found.ensures.first in
-    rw c.find_some.ensures.same (left-kept s.gains c.in-Some.place c.self.invariant.gained (owed-left s.gains s.strikes.items c.index-account.result.now c.in-Some.place found.0))
+entry-requires-clause-kept c = grind (arith, left-kept, owed-left)
 
 -- the debt of the row that was found is the first that a send of one of the messages pays; where the account has none, neither has the row
 pub returns-clause-first : goal.returns-clause-first
@@ -19,11 +16,8 @@ returns-clause-first c =
     elim c.match-found.branch [
       | in-Some w ↦
           let found = rw (w.in-Some.is, c.deref.ensures.value) at c.in_ok-found.ensures.first in
-          rw (w.result-is, w.entry.ensures, c.find_some.ensures.same)
-          (subst (λ (debts : List Debt). IsFirstPaid (PaysSome test c.args.moment) c.args.moment debts (Some (entry_at (entries_of s.gains) w.in-Some.place).message)) is.1
-          (first-account s.gains s.strikes.items a test c.args.moment w.in-Some.place is.0 found))
+          rw (w.result-is, w.entry.ensures, c.find_some.ensures.same, ← is.1) (first-account s.gains s.strikes.items a test c.args.moment w.in-Some.place is.0 found)
       | in-None w ↦
           let none = rw (w.in-None.is, c.deref.ensures.value) at c.in_ok-found.ensures.first in
-          rw w.result-is (subst (λ (debts : List Debt). IsFirstPaid (PaysSome test c.args.moment) c.args.moment debts None) is.1
-          (none-account s.gains s.strikes.items a test c.args.moment none))
+          rw (w.result-is, ← is.1) (none-account s.gains s.strikes.items a test c.args.moment none)
     ]

@@ -1,10 +1,6 @@
 use Rattle.sip_ledger.proofs.Lemmas.{arith, nat_tests, first-all, first-left, left-kept, newest-first, one-found, owed-left}
 use Rattle.sip_ledger.proofs.accounts.account.find_first.Goals as goal
 
--- at first nothing was found
-pub loop-step-init : goal.loop-step-init
-loop-step-init c = record { is = tt; rest = λ k early owed pays. omega arith }
-
 -- where nothing is left of messages from `from` on, what was found is the first of all
 pub returns-in_default : goal.returns-in_default
 returns-in_default c = first-left c.args.gains.now c.args.strikes.now c.args.account c.loop-step.first c.loop-step.invariant c.in_default.ensures.none

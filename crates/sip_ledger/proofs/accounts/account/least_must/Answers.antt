@@ -17,10 +17,6 @@ returns-then-gains c =
     let found = c.in-Some.ensures in
     least-first_due c.loop-place.invariant found.within.0 found.before c.requires.gained c.requires.account found.is (sym c.owes.ensures ∙ c.if-owes.true) (rw c.entry.ensures at c.earlier.ensures) c.if-gains.true
 
--- what the account owes is kept
-pub entry-requires-clause-kept : goal.entry-requires-clause-kept
-entry-requires-clause-kept c = grind (arith, left-kept, owed-left)
-
 -- the least deadline so far is that of the debts up to here that must be sent
 pub loop-place-preserved : goal.loop-place-preserved
 loop-place-preserved c =

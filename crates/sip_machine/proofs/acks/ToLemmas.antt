@@ -1,6 +1,8 @@
 -- The To that stands beside a kept message stays what it is, and tells which of the messages has a To. The numbers of messages stand under the hashes of Tos.
 use Rattle.sip_machine.proofs.Words.{◌≡◌, ◌<◌, ◌≤◌, ◌↔◌, ◌-◌, ℕ, Bool, true, false, IsTrue, Option, None, Some, bytes_eq, List, [], ◌∷◌, ◌++◌, All, AllPairs, Contains, length, map, slice_get, take, items_where_true, bytes_decides, sym, ◌∙◌, ap, subst, arith, get_or, nat_lt, nat_tests, and-false, cases_lt, ne_eqb, get_or_picked, get_or_from_slice_get, get_or-map, get_or-take, length-map, length-take-le, take_all, All-contains, All-contains_itself, All-from_retain, IsFiltered, All-get_or, All-push, All-take, All-weaker, AllPairs-cons, AllPairs-head, AllPairs-tail, same_reading, solid, Texts, IsBook, Keeps, text_of, only, To, full_hash, numbers_of, IsToOf, IsTo, AreTos, AreUnder, HasAll, IsChanged, count_between, cond, ◌==◌}
 use Rattle.std.specs.BTreeMap.{is_at}
+use Rattle.std.specs.Option.{option_copied, unwrap_or}
+use Rattle.std.proofs.Common.{Bor, true≢false}
 use Rattle.std.specs.Map.{lookup}
 use Rattle.std.specs.Ordering.{nat_cmp}
 use Rattle.sip_numbers.specs.declared.numbers.Word.{Word}
@@ -121,11 +123,6 @@ module _ (old : Sets) (hash number : ℕ) (is_there : Bool) (there : Option (Lis
   unfolding stands
   set-changed new set each has h n = grind (arith, nat_tests, is, each h, has n)
 
-  -- where no set stands there, to take the number changes nothing
-  pub none-taken : there ≡ None → is_there ≡ false → IsChanged hash number is_there old old
-  unfolding stands
-  none-taken none gone h n = grind (arith, nat_tests, is, none, gone)
-
 -- where the number of a To is put under its hash, it stands there after the others, and these stand under theirs
 pub under-put : (to : To) (old new : Sets) (tos : List To) → IsChanged (full_hash to.text) to.number true old new → AreUnder tos old →
     AreUnder (tos ++ to ∷ []) new
@@ -143,12 +140,17 @@ under-taken hash number old new n tos changed lower under = λ k d low.
     let to = get_or (take n tos) k d in
     grind (arith, nat_tests, changed (full_hash to.text) to.number, ne_eqb, and-false)
 
--- the set that is found under the hash of a To has the numbers of all Tos of the list that are the same
-pub under-found : (sets : Sets) (tos : List To) (to : List ℕ) (hash : ℕ) (found : Option (List Word)) → hash ≡ full_hash to →
-    found ≡ lookup (is_at (nat_cmp hash)) sets.entries → AreUnder tos sets → All (λ its. its.text ≡ to → is_in found its.number ≡ true) tos
+-- the set that is found under the hash of a To has the numbers of all Tos of the list that are the same; `none` is told where none is found
+pub under-found : (sets : Sets) (tos : List To) (to : List ℕ) (hash : ℕ) (found : Option (Bor (List Word))) (none : Bor (List Word)) → hash ≡ full_hash to →
+    option_copied found ≡ lookup (is_at (nat_cmp hash)) sets.entries → AreUnder tos sets → All (λ its. its.text ≡ to → numbers_of (unwrap_or found none).now its.number ≡ true) tos
 unfolding stands
-under-found sets tos to hash found of_to is under = λ k d low same.
-    ap (λ o. is_in o (get_or tos k d).number) (is ∙ ap (λ h. lookup (is_at (nat_cmp h)) sets.entries) (of_to ∙ ap full_hash (sym same))) ∙ under k d low
+under-found sets tos to hash found none of_to is under = λ k d low same. has found (get_or tos k d).number
+    (ap (λ o. is_in o (get_or tos k d).number) (is ∙ ap (λ h. lookup (is_at (nat_cmp h)) sets.entries) (of_to ∙ ap full_hash (sym same))) ∙ under k d low)
+  where
+    -- a number that is in the set that is found is in what is told
+    has : (found : Option (Bor (List Word))) (n : ℕ) → is_in (option_copied found) n ≡ true → numbers_of (unwrap_or found none).now n ≡ true
+    has None n gone = absurd (true≢false (sym gone))
+    has (Some set) n there = there
 
 -- where the values that f gives rise along a list, the list of these values rises
 pub AllPairs-map : {X : Type 0} (f : X → ℕ) (xs : List X) → AllPairs (λ a b. f a < f b) xs → AllPairs (λ a b. a < b) (map f xs)

@@ -31,8 +31,10 @@ moved_to texts more to kept same is = record { kept = kept; text = subst (λ byt
 -- where a message is added to the book, the Tos stay those of kept messages
 pub AreTos-grow : (texts : Texts) (entry : ℕ) (bytes : List ℕ) (tos : List To) → AreTos texts tos → AreTos (texts ++ (entry, bytes) ∷ []) tos
 AreTos-grow texts entry bytes tos all = record {
-  each = All-weaker (IsTo texts) (IsTo (texts ++ (entry, bytes) ∷ [])) (λ to is.
-      moved_to texts (texts ++ (entry, bytes) ∷ []) to (Keeps-grow texts entry bytes to.number is.kept) (text_of-grow texts entry bytes to.number is.kept) is) tos all.each;
+  each = λ k d low.
+      let is = all.each k d low in
+      let number = (get_or tos k d).number in
+      moved_to texts (texts ++ (entry, bytes) ∷ []) (get_or tos k d) (Keeps-grow texts entry bytes number is.kept) (text_of-grow texts entry bytes number is.kept) is;
 }
 
 -- Tos that are some of those of kept messages are those of kept messages
@@ -78,17 +80,14 @@ front_below tos last up is = λ k d low.
     let before : k < length tos - 1 = omega (arith, low, length-take-le (length tos - 1) tos (omega arith)) in
     rw (get_or-take (length tos - 1) tos k d before) (before_last tos last up is k d before)
 
--- what holds of all elements of a list holds of those that are picked
-pub All-picked : {X : Type 0} (P : X → Type 0) (bs : List Bool) (xs : List X) → All P xs → All P (items_where_true bs xs)
-All-picked P bs xs all = grind (arith, get_or_picked)
-
 -- what relates each pair of a list, in order, relates each pair of those that are picked
-pub AllPairs-picked : {X : Type 0} (R : X → X → Type 0) (bs : List Bool) (xs : List X) → AllPairs R xs → AllPairs R (items_where_true bs xs)
+AllPairs-picked : {X : Type 0} (R : X → X → Type 0) (bs : List Bool) (xs : List X) → AllPairs R xs → AllPairs R (items_where_true bs xs)
 AllPairs-picked R [] xs up = λ i j d lt low. absurd (omega arith)
 AllPairs-picked R (b ∷ bs) [] up = λ i j d lt low. absurd (omega arith)
 -- the first element is picked, and R relates it to each later one; or it is left out
 AllPairs-picked R (true ∷ bs) (x ∷ xs) up =
-    AllPairs-cons R x (items_where_true bs xs) (All-picked (R x) bs xs (AllPairs-head R x xs up)) (AllPairs-picked R bs xs (AllPairs-tail R x xs up))
+    let later = AllPairs-head R x xs up in
+    AllPairs-cons R x (items_where_true bs xs) (grind (arith, get_or_picked)) (AllPairs-picked R bs xs (AllPairs-tail R x xs up))
 AllPairs-picked R (false ∷ bs) (x ∷ xs) up = AllPairs-picked R bs xs (AllPairs-tail R x xs up)
 
 -- What follows is of Tos and what a test leaves of them, as `retain` leaves it.
@@ -101,9 +100,10 @@ module _ {F : Type 0} (R : F → To → Bool → F → Type 0) (f : F) (tos left
   pub left-over : (numbers : List ℕ) → ((to : To) (b : Bool) (g : F) → R f to b g → (b ≡ true → Contains numbers to.number) × (g ≡ f)) →
       All (λ to. Contains tos to × Contains numbers to.number) left
   left-over numbers passes =
-      let some = subst (All (Contains tos)) (sym kept.4) (All-picked (Contains tos) kept.0 tos (All-contains_itself tos)) in
-      let among = All-from_retain R (λ to. Contains numbers to.number) f passes tos left kept in
-      λ k d low. (some k d low, among k d low)
+      λ k d low.
+      let (_, (j, within, is)) = get_or_picked kept.0 tos k d (rw kept.4 at low) in
+      let has = subst (Contains tos) (sym is) (All-contains_itself tos j d within) in
+      (rw kept.4 has, All-from_retain R (λ to. Contains numbers to.number) f passes tos left kept k d low)
 
 -- what relates each pair of a list, in order, relates each pair of its first elements
 pub AllPairs-take : {X : Type 0} (R : X → X → Type 0) (n : ℕ) (xs : List X) → AllPairs R xs → AllPairs R (take n xs)
@@ -159,33 +159,25 @@ AllPairs-map f (x ∷ xs) up = λ i j d lt low.
     let high : j < length (x ∷ xs) = rw length-map at low in
     rw (get_or-map f (x ∷ xs) i x d (omega (arith, lt, high)), get_or-map f (x ∷ xs) j x d high) (up i j x lt high)
 
--- a message whose To is in the list is kept
-numbers_kept : (texts : Texts) (tos : List To) → AreTos texts tos → (n : ℕ) → Contains (map (λ to. to.number) tos) n → Keeps texts n
-numbers_kept texts tos are n (i, within, at) =
-    let low : i < length tos = rw length-map at within in
-    let its = All-get_or (IsTo texts) tos i nobody low are.each in
-    subst (Keeps texts) (sym (get_or-map (λ to. to.number) tos i nobody n low) ∙ at) its.kept
+-- a number that is one of those of the Tos of a list is that of the To at some place
+placed : (tos : List To) (n : ℕ) → Contains (map (λ to. to.number) tos) n → (i : ℕ) × (i < length tos) × ((get_or tos i nobody).number ≡ n)
+placed tos n (i, within, at) = let low : i < length tos = rw length-map at within in (i, low, sym (get_or-map (λ to. to.number) tos i nobody n low) ∙ at)
 
--- What follows is of the kept messages with numbers from `low` up to `high`, where as many Tos with such numbers are in the list.
-module _ (texts : Texts) (tos : List To) (low high : ℕ) (book : IsBook texts) (are : AreTos texts tos) (up : AllPairs below tos)
-    (as_many : count_between low high (map (λ k. k.0) texts) ≡ count_between low high (map (λ to. to.number) tos)) where
-  -- each kept message with a number from low up to high has its To in the list
-  beside : (number : ℕ) → Keeps texts number → low ≤ number → number ≤ high → (i : ℕ) × (i < length tos) × ((get_or tos i nobody).number ≡ number)
-  beside number kept from to =
-      -- there are as many Tos as messages between the two numbers, and each To is that of a kept message; so each message has one
-      let le : low ≤ high = omega (arith, from, to) in
-      let as_few : many low high (map (λ k. k.0) texts) ≤ many low high (map (λ to. to.number) tos) =
-      omega (arith, as_many, count_between-is low high (map (λ k. k.0) texts) le, count_between-is low high (map (λ to. to.number) tos) le) in
-      let (i, within, at) = among-all low high (map (λ k. k.0) texts) (map (λ to. to.number) tos) (AllPairs-map (λ k. k.0) texts book.rising) (AllPairs-map (λ to. to.number) tos up)
-      (numbers_kept texts tos are) as_few number kept from to in
-      (i, rw length-map at within, sym (get_or-map (λ to. to.number) tos i nobody number (rw length-map at within)) ∙ at)
-
-  -- a set with the numbers of all Tos of the list that are this one has those of all such messages
-  pub has-all : (to : List ℕ) (set : List Word) → All (λ its. its.text ≡ to → numbers_of set its.number ≡ true) tos → HasAll texts low high to set
-  has-all to set all = λ number kept from to_high is.
-      let (i, within, at) = beside number kept from to_high in
-      let there = get_or tos i nobody in
-      -- the To that stands there is the message's one To
-      let its = All-get_or (IsTo texts) tos i nobody within are.each in
-      let same = IsToOf-one (text_of texts number) to there.text (subst (λ n. IsToOf (text_of texts n) there.text) at its.text) is in
-      subst (λ n. numbers_of set n ≡ true) at (All-get_or (λ its. its.text ≡ to → numbers_of set its.number ≡ true) tos i nobody within all same)
+-- where as many Tos with numbers from `low` up to `high` are in the list as messages with such numbers are kept, a set with the numbers of all Tos of the list
+-- that are this one has those of all such messages
+pub has-all : (texts : Texts) (tos : List To) (low high : ℕ) → IsBook texts → AreTos texts tos → AllPairs below tos →
+    count_between low high (map (λ k. k.0) texts) ≡ count_between low high (map (λ to. to.number) tos) → (to : List ℕ) (set : List Word) →
+    All (λ its. its.text ≡ to → numbers_of set its.number ≡ true) tos → HasAll texts low high to set
+has-all texts tos low high book are up as_many to set all = λ number kept from to_high is.
+    let kept_numbers = map (λ k. k.0) texts in
+    let numbers = map (λ to. to.number) tos in
+    -- there are as many Tos as messages between the two numbers, and each To is that of a kept message; so each message has one
+    let le : low ≤ high = omega (arith, from, to_high) in
+    let as_few : many low high kept_numbers ≤ many low high numbers = omega (arith, as_many, count_between-is low high kept_numbers le, count_between-is low high numbers le) in
+    let its_kept : (n : ℕ) → Contains numbers n → Keeps texts n = λ n has. let (i, within, at) = placed tos n has in subst (Keeps texts) at (are.each i nobody within).kept in
+    let (i, within, at) = placed tos number (among-all low high kept_numbers numbers (AllPairs-map (λ k. k.0) texts book.rising) (AllPairs-map (λ to. to.number) tos up)
+    its_kept as_few number kept from to_high) in
+    -- the To that stands there is the message's one To
+    let there = get_or tos i nobody in
+    let same = IsToOf-one (text_of texts number) to there.text (subst (λ n. IsToOf (text_of texts n) there.text) at (are.each i nobody within).text) is in
+    subst (λ n. numbers_of set n ≡ true) at (all i nobody within same)

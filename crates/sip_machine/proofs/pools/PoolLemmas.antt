@@ -98,10 +98,6 @@ module _ {S : Type 0} where
   pub same-state : (x y : CodeOwing S) → x.phase ≡ y.phase → x.owes ≡ y.owes → x ≡ y
   same-state x y phase owes = let e : record { phase = x.phase; owes = x.owes } ≡ y = rw (phase, owes) in e
 
--- a list has no elements exactly if their number is 0
-pub empty-length : {X : Type 0} (xs : List X) (n : ℕ) → n ≡ length xs → IsTrue (n == 0) ↔ (xs ≡ [])
-empty-length xs n is = grind (arith, nat_tests, nil_from_length)
-
 -- What follows is of lists that grow at their end.
 module _ {X : Type 0} where
   -- the element at k of a list that has one
@@ -134,7 +130,7 @@ module _ {X : Type 0} where
       (is, take-old old _ new (length old) (is (some-at old k low)) refl)
 
 -- how phases and rows of a pool stand beside each other: the lemmas that `using(..)` gives the prover in `src/pool.rt`
-pub ruleset of_pool = (beside-length, phase-at, beside-append, beside-set, beside-take, empty-length, in-phases, in-rows, rested-set, state-at, same-state, take-append_seam, take_all, length_push, not-shorter, front-again)
+pub ruleset of_pool = (beside-length, phase-at, beside-append, beside-set, beside-take, nil_from_length, in-phases, in-rows, rested-set, state-at, same-state, take-append_seam, take_all, length_push, not-shorter, front-again)
 
 -- where all items are moved to the front by `count` places, and the last ones are left out, the first `count` items are dropped
 pub dropped-first : {X : Type 0} (count len : ℕ) (xs : List X) → len ≡ length xs → count ≤ length xs → take (len - count) (copy_within xs count len 0) ≡ drop count xs

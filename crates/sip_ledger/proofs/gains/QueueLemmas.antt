@@ -16,9 +16,9 @@ queues-later {s} {n} {queues = queues} message place updates after within were =
     record {
       below = λ m k left. grind (arith, nat_tests, more m k, were.below m k);
       each = λ key. IfSome_then (lookup (is_at (nat_cmp key)) queues.entries) (were.each key) (λ queue was. record {
-          low = λ b m k stands left. grind (arith, nat_tests, more m k, was.low b m k stands, was.within b m stands);
-          within = λ b m stands. omega (arith, was.within b m stands, after);
-          below = λ m k left. grind (arith, nat_tests, more m k, was.below m k);
+        low = λ b m k stands left. grind (arith, nat_tests, more m k, was.low b m k stands, was.within b m stands);
+        within = λ b m stands. omega (arith, was.within b m stands, after);
+        below = λ m k left. grind (arith, nat_tests, more m k, was.below m k);
       });
     }
 

@@ -120,5 +120,6 @@ fn first_named(
             those.put(*message)?;
         }
     }
-    dues.first_payable(row, to.hash(), &those, moment)
+    // Under the hash itself another To may stand.
+    dues.first_payable(row, !to.hash(), &those, moment)
 }

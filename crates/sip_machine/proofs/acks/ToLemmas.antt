@@ -1,5 +1,5 @@
 -- The To that stands beside a kept message stays what it is, and tells which of the messages has a To. The numbers of messages stand under the hashes of Tos.
-use Rattle.sip_machine.proofs.Words.{◌≡◌, ◌<◌, ◌≤◌, ◌↔◌, ◌-◌, ℕ, Bool, true, false, IsTrue, Option, None, Some, bytes_eq, List, [], ◌∷◌, ◌++◌, All, AllPairs, Contains, length, map, slice_get, take, items_where_true, bytes_decides, sym, ◌∙◌, ap, subst, arith, get_or, nat_lt, nat_tests, and-false, cases_lt, ne_eqb, get_or_picked, get_or_from_slice_get, get_or-map, get_or-take, length-map, length-take-le, take_all, All-contains, All-contains_itself, All-from_retain, IsFiltered, All-get_or, All-push, All-take, All-weaker, AllPairs-cons, AllPairs-head, AllPairs-tail, same_reading, solid, Texts, IsBook, Keeps, text_of, only, To, full_hash, numbers_of, IsToOf, IsTo, AreTos, AreUnder, HasAll, IsChanged, count_between, cond, ◌==◌}
+use Rattle.sip_machine.proofs.Words.{◌≡◌, ◌<◌, ◌≤◌, ◌↔◌, ◌-◌, ℕ, Bool, true, false, IsTrue, Option, None, Some, bytes_eq, List, [], ◌∷◌, ◌++◌, All, AllPairs, Contains, length, map, slice_get, take, items_where_true, bytes_decides, sym, ◌∙◌, ap, subst, arith, get_or, nat_lt, nat_tests, and-false, cases_lt, ne_eqb, get_or_picked, get_or_from_slice_get, get_or-map, get_or-take, length-map, length-take-le, take_all, All-contains, All-contains_itself, All-from_retain, IsFiltered, All-push, All-take, All-weaker, AllPairs-cons, AllPairs-head, AllPairs-tail, same_reading, solid, Texts, IsBook, Keeps, text_of, only, To, full_hash, numbers_of, IsToOf, IsTo, AreTos, AreUnder, HasAll, IsChanged, count_between, cond, ◌==◌}
 use Rattle.std.specs.BTreeMap.{is_at}
 use Rattle.std.specs.Option.{option_copied, unwrap_or}
 use Rattle.std.proofs.Common.{Bor, true≢false}

@@ -2,7 +2,7 @@
 use Prim.Native.Nat.{suc, zero}
 use Rattle.std.specs.List.{copy_within}
 use Rattle.std.proofs.lemmas.List.{nil_from_length}
-use Rattle.sip_machine.proofs.Words.{◌≡◌, ◌==◌, ◌↔◌, ◌<◌, ◌≤◌, ℕ, IsTrue, List, [], ◌∷◌, ◌++◌, drop, get_or, length, set, take, HoldsAt, refl, sym, ◌∙◌, ap, ap₂, subst, arith, nat_tests, get_or-append_seam, take-append_seam, length-drop, set-get_or, set_at, set_split, drop_all, length-take, length_push, take-take, take_all, take_at, take_rest, length-take-le, ◌-◌, Debt, CodeOwing, at_rest, state_in, Rest, Stays, Pays, owed_in, rested_debts, rests_at, beside}
+use Rattle.sip_machine.proofs.Words.{◌≡◌, ◌<◌, ◌≤◌, ℕ, List, [], ◌∷◌, ◌++◌, drop, get_or, length, set, take, HoldsAt, refl, sym, ◌∙◌, ap, ap₂, subst, arith, nat_tests, get_or-append_seam, take-append_seam, length-drop, set-get_or, set_at, set_split, drop_all, length-take, length_push, take-take, take_all, take_at, take_rest, length-take-le, ◌-◌, Debt, CodeOwing, at_rest, state_in, Rest, Stays, Pays, owed_in, rested_debts, rests_at, beside}
 
 -- What follows is of phases beside the rows of what is owed, as the states of a pool.
 module _ {S : Type 0} where

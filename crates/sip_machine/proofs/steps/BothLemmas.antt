@@ -1,5 +1,5 @@
 -- At most two states of the code stand for all to which an event leads.
-use Rattle.sip_machine.proofs.Words.{◌≡◌, ◌≢◌, ◌↔◌, ◌⊎◌, ℕ, Option, Some, None, List, [], ◌∷◌, inl, inr, refl, sym, arith, nat_tests, AllPairs, AllPairs-cons, ◌++◌, map, option_to_list, Texts, Knows, StandFor, OrStays, AnswersOne, AnswersBoth}
+use Rattle.sip_machine.proofs.Words.{◌≡◌, ◌≢◌, ◌↔◌, ◌⊎◌, ℕ, Option, Some, None, List, [], ◌∷◌, refl, arith, nat_tests, AllPairs, AllPairs-cons, ◌++◌, map, option_to_list, Texts, StandFor, OrStays, AnswersOne, AnswersBoth}
 use Rattle.sip_machine.proofs.steps.SingleLemmas.{StandFor-none, StandFor-one}
 use Rattle.sip_machine.proofs.pools.CoversLemmas.{Covers-both, Covers-one}
 

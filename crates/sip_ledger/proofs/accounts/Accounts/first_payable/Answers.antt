@@ -1,4 +1,4 @@
-use Rattle.sip_ledger.proofs.Lemmas.{account-at, arith, Debt, entries_of, entry_at, first-account, IsFirstPaid, left-kept, List, None, none-account, numbers_of, owed-left, PaysSome, Some, subst}
+use Rattle.sip_ledger.proofs.Lemmas.{account-at, arith, first-account, left-kept, none-account, numbers_of, owed-left}
 use Rattle.sip_ledger.proofs.accounts.Accounts.first_payable.Goals as goal
 use Rattle.sip_ledger.proofs.accounts.Accounts.first_payable.Goals.{in-Some, in-None}
 

@@ -1,4 +1,4 @@
-use Rattle.sip_ledger.proofs.Lemmas.{arith, least-first, least-first_due, least-found, least-last, least-passed, left-kept, owed-left, sym, ◌∙◌}
+use Rattle.sip_ledger.proofs.Lemmas.{arith, least-first, least-first_due, least-found, least-last, least-passed, sym, ◌∙◌}
 use Rattle.sip_ledger.proofs.accounts.account.least_must.Goals.{then-owes+else-gains, else-owes}
 use Rattle.sip_ledger.proofs.accounts.account.least_must.Goals as goal
 

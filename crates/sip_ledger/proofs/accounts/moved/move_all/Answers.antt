@@ -1,4 +1,4 @@
-use Rattle.sip_ledger.proofs.Lemmas.{Account, All-nil, arith, IsAccount, length, moved-more, refl, [], ◌<◌}
+use Rattle.sip_ledger.proofs.Lemmas.{Account, arith, length, moved-more, ◌<◌}
 use Rattle.sip_ledger.proofs.accounts.moved.move_all.Goals as goal
 
 -- one account more is moved

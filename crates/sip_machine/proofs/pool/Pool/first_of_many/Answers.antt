@@ -1,5 +1,5 @@
 -- At each turn of the loop (`c.loop-at.invariant`) part 0 says that the rows are the first ones, 1 that the slots have as many prints, 2 that they are theirs.
-use Rattle.sip_machine.proofs.Words.{◌≡◌, ◌<◌, ◌+◌, ◌-◌, ◌∷◌, [], get_or, length, ◌∙◌, ap, sym, subst, arith, inl, inr, cases_lt, get_or_default, get_or_append_left, get_or_push, length_push, AreFirstOnes}
+use Rattle.sip_machine.proofs.Words.{◌≡◌, ◌<◌, ◌+◌, ◌-◌, get_or, length, ◌∙◌, ap, sym, subst, arith, cases_lt, get_or_default, get_or_append_left, get_or_push, length_push, AreFirstOnes}
 use Rattle.sip_machine.proofs.pools.FirstLemmas.{first-told, first-again}
 use Rattle.sip_machine.proofs.pool.Pool.first_of_many.Goals as goal
 use Rattle.sip_machine.proofs.pool.Pool.first_of_many.Goals.{then-not-is_repeat+in_ok-push+in_ok-push-2, else-not-is_repeat}

@@ -245,9 +245,14 @@ impl Played {
         Ok(())
     }
 
-    /// Asserts that each row owes the debts of its list and has their print.
+    /// Asserts that each row owes the debts of its list, by all that can be asked, also after it was asked what some messages pay first.
     fn agree(&mut self, rt: &impl Abort) -> Done {
         self.pays_some_first(rt)?;
+        self.owes_lists(rt)
+    }
+
+    /// Asserts that each row owes the debts of its list and has their print.
+    fn owes_lists(&self, rt: &impl Abort) -> Done {
         holds(rt, self.accounts.len() == self.lists.len(), "count of rows");
         self.names_all(rt)?;
         let prints = self.accounts.prints(self.alloc, 0)?;

@@ -227,6 +227,36 @@ def acks_in_another_order(count, _):
     yield from 2 * count * [("S", 0, text("ACK sip:b SIP/2.0", "ACK", 1, "t"))]
 
 
+def acks_beside_equal_ones(count, _):
+    """Refusals that differ, whose two Tos come in turn, and between them refusals with the first To, each as often as 17 times in a row; then as many of three
+    Tos in turn, and ACKs of the first To. What is owed of each message stands apart."""
+    yield "S", 0, text(INVITE)
+    for number in range(count):
+        yield "R", 0, reply(f"486 {number}", f"t{number % 2}")
+        yield "R", 0, reply(f"486 {number // 17}", "t0")
+    for number in range(count):
+        yield "R", 0, reply(486, f"t{number % 3}")
+    yield from count * [("S", 0, text("ACK sip:b SIP/2.0", "ACK", 1, "t0"))]
+
+
+def acks_of_two_in_another_order(count, _):
+    """Refusals that differ, whose two Tos come in turn. They come again, the newest first, and then the ACKs of one To."""
+    yield "S", 0, text(INVITE)
+    for number in (*range(count), *reversed(range(count))):
+        yield "R", 0, reply(f"486 {number}", f"t{number % 2}")
+    yield from count * [("S", 0, text("ACK sip:b SIP/2.0", "ACK", 1, "t0"))]
+
+
+def acks_of_many_in_another_order(count, _):
+    """Refusals that differ, of which each twenty have one To. They come again, in a mixed order, and then the ACKs, of one To after those of another."""
+    tos = max(1, count // 20)
+    yield "S", 0, text(INVITE)
+    for number in (*range(count), *(it * 7919 % count for it in range(count))):
+        yield "R", 0, reply(f"486 {number}", f"t{number % tos}")
+    for to in reversed(range(tos)):
+        yield from 2 * len(range(to, count, tos)) * [("S", 0, text("ACK sip:b SIP/2.0", "ACK", 1, f"t{to}"))]
+
+
 def acks_of_long_tos(count, _):
     """Refusals whose Tos are long and differ in their ends alone; their ACKs, newest first."""
     yield from refused(count, lambda it: 300 * "t" + str(it), reversed)
@@ -323,6 +353,9 @@ LOGS = [
     (acks_of_other_calls, 4000, (1,)),
     (acks_between, 2000, (1,)),
     (acks_in_another_order, 2000, (1,)),
+    (acks_beside_equal_ones, 2000, (1,)),
+    (acks_of_two_in_another_order, 2000, (1,)),
+    (acks_of_many_in_another_order, 2000, (1,)),
     (acks_of_long_tos, 4000, (1,)),
     # Debts that are equal, paid by all states at once, or past.
     (equal_debts, 25000, (1, 1024)),

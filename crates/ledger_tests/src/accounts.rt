@@ -161,16 +161,11 @@ impl Played {
         Ok(())
     }
 
-    /// The debts of the row are those of this list, also where fewer or more of the first ones are asked for than it owes.
+    /// The debts of the row are those of this list.
     fn owes_debts(&self, rt: &impl Abort, row: usize, list: &[Debt]) -> Done {
         holds(rt, row < self.accounts.len(), "a row of the accounts");
         let first = self.accounts.first_debt(row);
         holds(rt, first == list.first().copied(), "first debt");
-        for most in [list.len() / 2, list.len(), usize::MAX] {
-            let debts = self.accounts.first_debts(self.alloc, row, most)?;
-            let wants = list.get(..most).unwrap_or(list);
-            holds(rt, debts.as_slice() == wants, "first debts");
-        }
         let runs = self.accounts.runs(self.alloc, row)?;
         let mut debts = Vec::new(self.alloc);
         for run in &runs {
@@ -191,7 +186,6 @@ impl Played {
         let earliest = self.accounts.earliest_must(row);
         holds(rt, earliest == least, "earliest must");
         let moment = least.unwrap_or(0);
-        self.pays_one_first(rt, row, list, moment)?;
         holds(rt, self.accounts.is_timely(row, moment), "timely");
         // One later the row is timely only where it must send nothing.
         let late = self.accounts.is_timely(row, moment.saturating_add(1));
@@ -214,23 +208,23 @@ impl Played {
         Ok(())
     }
 
-    /// The first debt that a send of one of two messages pays is the first such debt of this list. It is found by a look at three, perhaps at fewer, and
-    /// not at none.
-    fn pays_one_first(&self, rt: &impl Abort, row: usize, list: &[Debt], moment: u64) -> Done {
-        // Each two of the messages 0, 1 and 2.
-        for two in [[2, 1], [0, 2], [1, 0]] {
-            let messages = set_of(self.alloc, &two)?;
-            let mut debts = list.iter();
-            let first = debts.find(|debt| two.contains(&debt.message) && moment <= debt.deadline);
-            let want = first.map(|debt| debt.message);
-            for most in 0..4 {
-                holds(rt, row < self.accounts.len(), "a row of the accounts");
-                // The messages are two, so that a look at three always tells.
-                let is_told = match self.accounts.first_payable(row, &messages, moment, most) {
-                    Some(found) => found == want && most > 0,
-                    None => most < 3,
-                };
-                holds(rt, is_told, "first payable");
+    /// The first debt of each row that a send of one of some messages pays is the first such debt of its list, whether the messages are asked for under a key
+    /// of their own or under one of other messages too.
+    fn pays_some_first(&mut self, rt: &impl Abort) -> Done {
+        // Each two of the messages 0, 1 and 2, and all of them.
+        for some in [[2, 1, 1], [0, 2, 2], [1, 0, 0], [0, 1, 2]] {
+            let messages = set_of(self.alloc, &some)?;
+            for (row, list) in self.lists.iter().enumerate() {
+                let moment = earliest_must(list).unwrap_or(0);
+                let mut debts = list.iter();
+                let first = debts.find(|debt| some.contains(&debt.message)
+                    && moment <= debt.deadline);
+                let want = first.map(|debt| debt.message);
+                for key in [some[0] * 10 + some[1], u64::MAX] {
+                    holds(rt, row < self.accounts.len(), "a row of the accounts");
+                    let found = self.accounts.first_payable(row, key, &messages, moment)?;
+                    holds(rt, found == want, "first payable");
+                }
             }
         }
         Ok(())
@@ -251,8 +245,14 @@ impl Played {
         Ok(())
     }
 
+    /// Asserts that each row owes the debts of its list, by all that can be asked, also after it was asked what some messages pay first.
+    fn agree(&mut self, rt: &impl Abort) -> Done {
+        self.pays_some_first(rt)?;
+        self.owes_lists(rt)
+    }
+
     /// Asserts that each row owes the debts of its list and has their print.
-    fn agree(&self, rt: &impl Abort) -> Done {
+    fn owes_lists(&self, rt: &impl Abort) -> Done {
         holds(rt, self.accounts.len() == self.lists.len(), "count of rows");
         self.names_all(rt)?;
         let prints = self.accounts.prints(self.alloc, 0)?;

@@ -17,11 +17,13 @@ pub(crate) fn set_of(alloc: Global, numbers: &[u64]) -> Result<Numbers, Fail> {
     Ok(set)
 }
 
-/// Two sets meet in the numbers that were put into both and not taken out of one, whichever side is asked, and from wherever on.
+/// Two sets meet in the numbers that were put into both and not taken out of one, whichever side is asked, and from wherever on. A third set leaves out the
+/// numbers that it has.
 #[test]
 fn sets_meet_where_lists_do(rt: HostRuntime) -> Done {
     let (mut one, mut other) = (set_of(rt.alloc(), &[])?, set_of(rt.alloc(), &[])?);
     let (mut ones, mut others) = (Vec::new(rt.alloc()), Vec::new(rt.alloc()));
+    let out = set_of(rt.alloc(), &[1, 63, 65, 192, 193, !63])?;
     let mut chance = Chance::new(11);
     for _ in 0..300 {
         let number = ENDS[chance.below(14) as usize % 14];
@@ -42,6 +44,11 @@ fn sets_meet_where_lists_do(rt: HostRuntime) -> Done {
             let first = both.copied().min();
             holds(&rt, one.next_in_both(&other, from) == first, "next in both");
             holds(&rt, other.next_in_both(&one, from) == first, "next in both");
+            let both = ones.iter().filter(|it| from <= **it && others.contains(it));
+            let left = both.filter(|it| ![1, 63, 65, 192, 193, !63].contains(it));
+            let first = left.copied().min();
+            let found = one.next_in_both_but(&other, &out, from);
+            holds(&rt, found == first, "next in both but those");
         }
     }
     Ok(())

@@ -1,4 +1,4 @@
-use Rattle.std.specs.Prelude.{◌≡◌, ◌<◌, ℕ, Bool, All, IsTrue, length, List, drop, get_or, take}
+use Rattle.std.specs.Prelude.{◌<◌, ℕ, length, List, drop, get_or, take}
 
 -- Parts of lists, and lists of numbers that rise.
 
@@ -9,10 +9,3 @@ from_to from to xs = drop from (take to xs)
 -- each number of the list is greater than those before it
 abbrev pub Rise : List ℕ → Type 0
 Rise numbers = (i k : ℕ) → i < k → k < length numbers → get_or numbers i 0 < get_or numbers k 0
-
--- at least so many numbers pass the test
-pub record HasMany (test : ℕ → Bool) (count : ℕ) : Type 0 where
-  pub numbers : List ℕ
-  pub rise : Rise numbers
-  pub many : length numbers ≡ count
-  pub pass : All (λ n. IsTrue (test n)) numbers

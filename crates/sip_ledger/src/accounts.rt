@@ -1,10 +1,10 @@
 //! What many rows owe: one list of what they gained, and for each row an account of what it owes of that list.
-ghost use Rattle.std.specs.Prelude.{◌≡◌, ◌↔◌, ◌<◌, ◌≤◌, ◌++◌, ◌∷◌, [], ℕ, List, IsTrue, OnOk, OnErr, IfOk, IfSome, IfNone, All, length, set, map, filter, take, drop, get_or, slice_get};
+ghost use Rattle.std.specs.Prelude.{◌≡◌, ◌↔◌, ◌<◌, ◌≤◌, ◌++◌, ◌∷◌, [], List, IsTrue, OnOk, OnErr, IfOk, All, length, set, map, filter, take, drop, slice_get};
 ghost use Rattle.std.specs.List.{list_any};
 ghost use Rattle.sip_ledger.specs.Accounts.{owed_in, AppendsOwed};
 ghost use Rattle.sip_ledger.specs.Debts.{IsFirstPaid, PaysSome, counts_at, softened_debt, is_payable, debt_deadlines, earliest, paid_by};
 ghost use Rattle.sip_numbers.specs.Numbers.{numbers_of};
-ghost use Rattle.sip_ledger.specs.Lists.{HasMany, Rise};
+ghost use Rattle.sip_ledger.specs.Lists.{Rise};
 ghost use Rattle.sip_ledger.specs.Runs.{AreRuns};
 
 mod account;
@@ -14,11 +14,12 @@ mod left;
 mod moved;
 mod named;
 mod places;
+mod queue;
 mod strikes;
 
 use crate::accounts::account::{
-    Account, EMPTY, debt_for, earliest_must, expired, find, find_first, first_debts,
-    gained_and_expired, paid_and_expired, place_for, same,
+    Account, EMPTY, debt_for, debts, earliest_must, expired, find, find_some, gained,
+    paid_and_expired, place_for, same,
 };
 use crate::accounts::gains::{Gains, Seek, drop_first};
 use crate::accounts::left::{drop_front, let_go};
@@ -142,25 +143,31 @@ impl Accounts {
         find(gains, strikes, account, &mut seek, message, moment).is_some()
     }
 
-    /// The message of the row's first debt that a send of one of these messages pays at the moment, if there is one. Where that
-    /// is not told by a look at `most` of them, the answer is None. It is told where they are fewer than `most`.
+    /// The message of the row's first debt that a send of one of these messages pays at the moment, if there is one. The key is a number for what these
+    /// messages have in common: where it is asked with the same key again, less is looked at. What rows owe stays, also on an error.
     pub fn first_payable(
-        &self,
+        &mut self,
         row: usize,
+        key: u64,
         messages: &Numbers,
         moment: u64,
-        most: usize,
-    ) -> Option<Option<u64>>
-        requires { row < length self.now }
-        ensures first { IfSome result (IsFirstPaid (PaysSome (numbers_of messages.now) moment) moment (owed_in self.now row)) }
-        ensures told { IfNone result (HasMany (numbers_of messages.now) most) }
+    ) -> Result<Option<u64>, AllocError>
+        requires { row < length self.old }
+        ensures same { self.new ≡ self.old }
+        ensures first { IfOk result (IsFirstPaid (PaysSome (numbers_of messages.now) moment) moment (owed_in self.old row)) }
     {
         let account = self.rows[row];
-        let (gains, strikes) = (&self.gains, &self.strikes);
-        let found = find_first(gains, strikes, account, messages, moment, most)?;
+        let found = find_some(
+            &mut self.gains,
+            &self.strikes,
+            account,
+            key,
+            messages,
+            moment,
+        )?;
         match found {
-            Some(place) => Some(Some(self.gains.entry(place).message)),
-            None => Some(None),
+            Some(place) => Ok(Some(self.gains.entry(place).message)),
+            None => Ok(None),
         }
     }
 
@@ -182,9 +189,8 @@ impl Accounts {
     {
         let account = self.rows[row];
         let place = place_for(&mut self.gains, &self.strikes, account, debt, None)?;
-        let gains = &self.gains;
-        let strikes = &mut self.strikes;
-        self.rows[row] = gained_and_expired(gains, strikes, account, debt, place, moment)?;
+        let grown = gained(&self.gains, &mut self.strikes, account, debt, place)?;
+        self.rows[row] = expired(&self.gains, &mut self.strikes, grown, moment)?;
         Ok(())
     }
 
@@ -229,6 +235,7 @@ impl Accounts {
     }
 
     /// The least deadline of what the row must send.
+    #[tactic(auto, using(crate::proofs::rows::SeenLemmas::first_of_rows))]
     pub fn earliest_must(&self, row: usize) -> Option<u64>
         requires { row < length self.now }
         ensures { result ≡ earliest (debt_deadlines (owed_in self.now row)) }
@@ -246,6 +253,7 @@ impl Accounts {
     }
 
     /// Whether two rows owe the same.
+    #[tactic(auto, using(crate::proofs::rows::SeenLemmas::first_of_rows))]
     pub fn same(&self, row: usize, other: usize) -> bool
         requires row { row < length self.now }
         requires other { other < length self.now }
@@ -305,12 +313,12 @@ impl Accounts {
     }
 
     /// What the row owes.
+    #[tactic(auto, using(crate::proofs::rows::SeenLemmas::first_of_rows))]
     fn debts(&self, alloc: Global, row: usize) -> Result<Vec<Debt>, AllocError>
         requires { row < length self.now }
         ensures { IfOk result (λ debts. debts.items ≡ owed_in self.now row) }
     {
-        let most = usize::MAX;
-        first_debts(alloc, &self.gains, &self.strikes, self.rows[row], most)
+        debts(alloc, &self.gains, &self.strikes, self.rows[row])
     }
 
     /// What the row owes first, if it owes something.
@@ -324,19 +332,6 @@ impl Accounts {
             return None;
         }
         Some(debt_for(&self.gains, account, account.start))
-    }
-
-    /// What the row owes first: this many debts, or all where it owes fewer.
-    pub fn first_debts(
-        &self,
-        alloc: Global,
-        row: usize,
-        most: usize,
-    ) -> Result<Vec<Debt>, AllocError>
-        requires { row < length self.now }
-        ensures { IfOk result (λ debts. debts.items ≡ take most (owed_in self.now row)) }
-    {
-        first_debts(alloc, &self.gains, &self.strikes, self.rows[row], most)
     }
 
     /// Gives back what no row needs. It is to be called after each step: where many rows pay, what they paid is then looked at once.

@@ -1,9 +1,10 @@
 //! What each of many states owes: accounts of all of them, if any owes something.
 ghost use Rattle.std.specs.Prelude.{◌≡◌, ◌↔◌, ◌<◌, ◌≤◌, ◌++◌, ◌∷◌, [], List, IsTrue, IfNone, IfOk, IfSome, OnOk, OnErr, All, flat_map, length, set, map, filter, take, drop};
 ghost use Rattle.sip_ledger.specs.Accounts.{paid_rows};
-ghost use Rattle.sip_ledger.specs.Debts.{counts_at, is_timely, debt_deadlines, earliest};
+ghost use Rattle.sip_ledger.specs.Debts.{IsFirstPaid, PaysSome, counts_at, is_timely, debt_deadlines, earliest};
 ghost use Rattle.sip_ledger.specs.Lists.{Rise, from_to};
 ghost use Rattle.sip_ledger.specs.Runs.{AreRuns};
+ghost use Rattle.sip_numbers.specs.Numbers.{numbers_of};
 ghost use Rattle.sip_machine.specs.Naming.{AppendsAll};
 ghost use Rattle.sip_machine.specs.Owes.{owed_in, owes_names};
 ghost use Rattle.sip_machine.specs.inner.Prints.{ArePrints};
@@ -20,6 +21,7 @@ macro_rules! rows {
 }
 
 use sip_ledger::{Accounts, Debt, Run};
+use sip_numbers::Numbers;
 use std::alloc::{AllocError, Global};
 use std::marker::Model;
 
@@ -70,6 +72,22 @@ impl Dues {
         ensures none { IfNone result (self.now ≡ blank_rows (length self.now)) }
     {
         rows!(&self.rows, accounts => Some(&**accounts), _ => None)
+    }
+
+    /// The message of the row's first debt that a send of one of these messages pays at the moment, if there is one. The key is a number for what these
+    /// messages have in common.
+    pub(crate) fn first_payable(
+        &mut self,
+        row: usize,
+        key: u64,
+        messages: &Numbers,
+        moment: u64,
+    ) -> Result<Option<u64>, AllocError>
+        requires { row < length self.old }
+        ensures same { self.new ≡ self.old }
+        ensures first { IfOk result (IsFirstPaid (PaysSome (numbers_of messages.now) moment) moment (owed_in self.old row)) }
+    {
+        rows!(&mut self.rows, accounts => accounts.first_payable(row, key, messages, moment), _ => Ok(None))
     }
 
     /// How many rows there are.

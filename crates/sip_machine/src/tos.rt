@@ -1,5 +1,5 @@
 //! The Tos of messages for which an ACK may come. They are found by the numbers of the messages, and by themselves.
-ghost use Rattle.std.specs.Prelude.{◌≡◌, ◌<◌, ◌++◌, ◌∷◌, [], ℕ, true, false, IfSome, OnOk, OnErr, IsTrue, All, AllPairs, Contains, length, map};
+ghost use Rattle.std.specs.Prelude.{◌≡◌, ◌<◌, ◌++◌, ◌∷◌, [], true, IfSome, OnOk, OnErr, IsTrue, All, AllPairs, Contains, length, map};
 ghost use Rattle.std.specs.List.{HoldsAt};
 ghost use Rattle.sip_numbers.specs.Numbers.{numbers_of};
 ghost use Rattle.sip_machine.specs.declared.tos.To.{To};
@@ -108,14 +108,13 @@ impl Tos {
     pub(crate) fn drop_newest(&mut self, number: u64)
         ensures { All (Contains self.old) self.new }
     {
-        match self.list.last() {
-            Some(last) if self.hashes.is_some() && last.number == number => {
-                if let Some(sets) = &mut self.hashes {
-                    take(sets, last.text.hash(), number);
-                }
-                let _ = self.list.pop();
-            }
-            _ => {}
+        if let Some(sets) = &mut self.hashes
+            && let Some(last) = self.list.last()
+            && last.number == number
+            && let Some(set) = sets.get_mut(&last.text.hash())
+        {
+            set.take(number);
+            let _ = self.list.pop();
         }
     }
 
@@ -133,13 +132,8 @@ impl Tos {
     pub(crate) fn under(&self, to: &Hashed) -> Option<&Numbers>
         ensures { IfSome result (λ set. All (λ its. its.text ≡ to.now → numbers_of set.now its.number ≡ true) self.now) }
     {
-        let Some(sets) = &self.hashes else {
-            return None;
-        };
-        match sets.get(&to.hash()) {
-            Some(set) => Some(set),
-            None => Some(&self.none),
-        }
+        let sets = self.hashes.as_ref()?;
+        Some(sets.get(&to.hash()).unwrap_or(&self.none))
     }
 
     /// How many Tos of the list are of messages with numbers from `low` up to `high`.
@@ -184,15 +178,6 @@ fn put(
     set.put(number)?;
     let _old = sets.insert(hash, set)?;
     Ok(())
-}
-
-/// Takes the number from the hash, if it stands there.
-fn take(sets: &mut BTreeMap<u64, Numbers>, hash: u64, number: u64)
-    ensures { IsChanged hash number false sets.old sets.new }
-{
-    if let Some(set) = sets.get_mut(&hash) {
-        set.take(number);
-    }
 }
 
 /// The numbers of the messages with these Tos, under the hashes of the Tos; None where none are to be kept, where they are few, or where there is no

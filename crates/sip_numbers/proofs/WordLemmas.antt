@@ -1,7 +1,7 @@
 -- One word: what its bits tell of each number, after one of them is set or cleared, and from one of them on.
-use Rattle.std.proofs.Common.{◌≡◌, ◌≢◌, ℕ, ◌+◌, ◌-◌, ◌*◌, ◌/◌, ◌%◌, ◌^◌, ◌<◌, ◌≤◌, Bool, true, false, cond, ◌==◌, bit_and, bit_or, refl, sym, ap, ◌∙◌, subst, inl, inr, arith, w64}
+use Rattle.std.proofs.Common.{◌≡◌, ◌≢◌, ℕ, ◌+◌, ◌-◌, ◌*◌, ◌/◌, ◌%◌, ◌^◌, ◌<◌, ◌≤◌, Bool, true, false, cond, ◌==◌, bit_and, bit_or, ◌∙◌, arith, w64}
 use Rattle.std.specs.Int.{trailing_zeros}
-use Rattle.std.proofs.lemmas.Bool.{and_right, cases_eq, cases_lt, eq-eqb, ne_eqb, false≢true}
+use Rattle.std.proofs.lemmas.Bool.{and_right}
 use Rattle.std.proofs.lemmas.Bool.Decides.{nat_tests}
 use Rattle.std.proofs.lemmas.Nat.Bits.{bit_at_set_same, bit_at_set_other, bit_at_clear_same, bit_at_clear_other}
 use Rattle.sip_masks.specs.Bits.{test}
@@ -11,14 +11,6 @@ use Rattle.sip_masks.proofs.WordLemmas.{test-shr}
 use Rattle.sip_numbers.specs.Numbers.{has_bit}
 use Rattle.sip_numbers.specs.declared.numbers.Word.{Word}
 use Rattle.sip_numbers.specs.inner.Numbers.{IsFirstOf}
-
--- a word of another block does not have the number
-pub has-other : (n : ℕ) (word : Word) → word.block ≢ n / 64 → has_bit n word ≡ false
-has-other n word other = rw (ne_eqb word.block (n / 64) other) refl
-
--- a word of the block of the number has it where its bit is set
-pub has-same : (n : ℕ) (word : Word) → word.block ≡ n / 64 → has_bit n word ≡ test word.bits (n % 64)
-has-same n word same = rw (eq-eqb word.block (n / 64) same) refl
 
 -- a word without bits does not have the number
 pub has-none : (n : ℕ) (word : Word) → word.bits ≡ 0 → has_bit n word ≡ false
@@ -35,51 +27,33 @@ pub test-taken : (bits place i : ℕ) → place < 64 → i < 64 →
 unfolding test
 test-taken bits place i small below = grind (arith, nat_tests, bit_at_clear_same w64 bits place small, bit_at_clear_other w64 bits place small i below)
 
--- where two words are of the block of a number, and their bits differ at most at its place, they tell the same of all other numbers
-pub has-changed : (number n : ℕ) (old new : Word) (value : Bool) → old.block ≡ number / 64 → new.block ≡ number / 64 →
-    ((i : ℕ) → i < 64 → test new.bits i ≡ cond (i == number % 64) value (test old.bits i)) → has_bit n new ≡ cond (n == number) value (has_bit n old)
-has-changed number n old new value was is told = grind (arith, nat_tests, told (n % 64) (omega arith))
-
 -- the bits of the word without those of lesser numbers than `from`
 abbrev pub bits_from : Word → ℕ → ℕ
 bits_from word from = shl (from - 64 * word.block) (word.bits / 2 ^ (from - 64 * word.block))
 
 -- What follows is of a word and a number that is not after all numbers of its block.
 module _ (word : Word) (from : ℕ) (within : from - 64 * word.block < 64) where
-  -- these bits tell whether the word has a number from `from` on
-  has-left : (n : ℕ) → from ≤ n → word.block ≡ n / 64 → has_bit n word ≡ test (bits_from word from) (n % 64)
-  has-left n after same =
+  -- with these bits the word has the same numbers from `from` on
+  has-left : (n : ℕ) → from ≤ n → has_bit n word ≡ has_bit n record { block = word.block; bits = bits_from word from }
+  has-left n after =
       let low = from - 64 * word.block in
-      let place : low + (n % 64 - low) ≡ n % 64 = omega arith in
-      has-same n word same ∙ subst (λ k. test word.bits k ≡ test (bits_from word from) k) place
-      (sym (test-shl_high low (n % 64 - low) (word.bits / 2 ^ low) (omega arith) ∙ test-shr word.bits low (n % 64 - low)))
+      let above = test-shl_high low (n % 64 - low) (word.bits / 2 ^ low) in
+      grind (arith, nat_tests, above, test-shr word.bits low (n % 64 - low))
 
   -- where none of them is set, the word has no number from `from` on
   pub none-from : bits_from word from ≡ 0 → (n : ℕ) → from ≤ n → has_bit n word ≡ false
-  none-from none n after = elim (cases_eq word.block (n / 64)) [
-    | inl same ↦ has-left n after same ∙ none-set (bits_from word from) (n % 64) none
-    | inr other ↦ has-other n word other
-  ]
+  none-from none n after = has-left n after ∙ has-none n _ none
 
   -- the lowest of them that is set is that of the first number
   pub first-of : {place : ℕ} → bits_from word from ≢ 0 → place ≡ trailing_zeros w64 (bits_from word from) → IsFirstOf word from (64 * word.block + place)
   first-of {place} some place_is =
-      let bits = bits_from word from in
       let low = from - 64 * word.block in
-      let found = rw (← place_is) at (lowest-set bits (omega (arith, some)) (omega arith)) in
-      let from_low : low ≤ place = elim (cases_lt place low) [
-        | inl less ↦ absurd (false≢true (sym (test-shl_low low place (word.bits / 2 ^ low) less found.0) ∙ found.1))
-        | inr more ↦ more
-      ] in
-      let after : from ≤ 64 * word.block + place = omega (arith, from_low) in
-      let at : (64 * word.block + place) % 64 ≡ place = omega (arith, found.0) in
+      let found = rw (← place_is) at (lowest-set (bits_from word from) (omega (arith, some)) (omega arith)) in
+      let from_low : low ≤ place = grind (arith, test-shl_low low place (word.bits / 2 ^ low), found.0, found.1) in
       record {
-        is = has-left (64 * word.block + place) after (omega (arith, found.0)) ∙ ap (test bits) at ∙ found.1;
-        after = after;
-        none_before = λ n from_n before. elim (cases_eq word.block (n / 64)) [
-          | inl same ↦ has-left n from_n same ∙ found.2 (n % 64) (omega (arith, same, before))
-          | inr other ↦ has-other n word other
-        ];
+        is = has-left (64 * word.block + place) (omega (arith, from_low)) ∙ grind (arith, nat_tests, found.0, found.1);
+        after = omega (arith, from_low);
+        none_before = λ n from_n before. has-left n from_n ∙ grind (arith, nat_tests, found.0, found.2 (n % 64));
       }
 
 -- what tells that a word has no number from one on

@@ -1,5 +1,8 @@
 //! Sets of numbers.
-ghost use Rattle.std.specs.Prelude.{◌≡◌, ◌==◌, ◌<◌, ◌≤◌, ◌+◌, ◌^◌, ℕ, cond, true, false, IfSome, IfNone, OnOk, OnErr, MatchResult};
+ghost use Rattle.std.specs.Prelude.{◌≡◌, ◌==◌, ◌&&◌, ◌<◌, ◌≤◌, ◌+◌, ◌/◌, ◌%◌, ◌^◌, ℕ, cond, not, true, false, length, IfSome, IfNone, OnOk, OnErr, MatchResult};
+ghost use Rattle.std.specs.Bool.{OnTrue};
+ghost use Rattle.std.specs.List.{AllWithin};
+ghost use Rattle.sip_masks.specs.Bits.{test};
 ghost use Rattle.sip_numbers.specs.Numbers.{IsFirstInBoth, NoneInBoth, has_bit, numbers_of};
 ghost use Rattle.sip_numbers.specs.inner.Numbers.{AreWords, IsFirstOf, IsPlaceFor};
 
@@ -53,7 +56,7 @@ impl Numbers {
     {
         let block = number / 64;
         let bit = 1 << (number % 64);
-        match place_for(&self.words, block) {
+        match place_for(&self.words, block, near(&self.words, block)) {
             Ok(at) => {
                 self.words[at].bits |= bit;
                 Ok(())
@@ -67,7 +70,8 @@ impl Numbers {
     pub fn take(&mut self, number: u64)
         ensures { (n : ℕ) → numbers_of self.new n ≡ cond (n == number) false (numbers_of self.old n) }
     {
-        let Ok(at) = place_for(&self.words, number / 64) else {
+        let block = number / 64;
+        let Ok(at) = place_for(&self.words, block, near(&self.words, block)) else {
             return;
         };
         let bits = self.words[at].bits & !(1 << (number % 64));
@@ -79,39 +83,96 @@ impl Numbers {
     }
 
     /// The first number from `from` on that is in both sets.
-    #[tactic(auto, using(crate::proofs::BothLemmas::turns))]
     pub fn next_in_both(&self, other: &Numbers, from: u64) -> Option<u64>
         ensures found { IfSome result (IsFirstInBoth (numbers_of self.now) (numbers_of other.now) from) }
         ensures none { IfNone result (NoneInBoth (numbers_of self.now) (numbers_of other.now) from) }
     {
-        let (Ok(start) | Err(start)) = place_for(&self.words, from / 64);
-        for at in start..self.words.len() {
-            let word = self.words[at];
-            if let Ok(beside) = place_for(&other.words, word.block) {
-                let both = Word {
-                    block: word.block,
-                    bits: word.bits & other.words[beside].bits,
-                };
-                if let Some(number) = first_from(both, from) {
-                    return Some(number);
-                }
-            }
-        }
-        None
+        next_but(&self.words, &other.words, &[], from)
+    }
+
+    /// The first number from `from` on that is in both sets, and not in a third one.
+    pub fn next_in_both_but(&self, other: &Numbers, but: &Numbers, from: u64) -> Option<u64>
+        ensures found { IfSome result (IsFirstInBoth (numbers_of self.now) (λ n. numbers_of other.now n && not (numbers_of but.now n)) from) }
+        ensures none { IfNone result (NoneInBoth (numbers_of self.now) (λ n. numbers_of other.now n && not (numbers_of but.now n)) from) }
+    {
+        next_but(&self.words, &other.words, &but.words, from)
     }
 }
 
-/// The place of the word of this block, or the one where it would stand. Where no block is left out before it, the first word tells it.
-fn place_for(words: &[Word], block: u64) -> Result<usize, usize>
+/// The first number from `from` on that the first two sets have, and the third has not.
+#[tactic(auto, using(std::proofs::lemmas::List::take_all))]
+fn next_but(words: &[Word], other: &[Word], but: &[Word], from: u64) -> Option<u64>
+    requires words { AreWords words.now }
+    requires other { AreWords other.now }
+    requires but { AreWords but.now }
+    ensures found { IfSome result (IsFirstInBoth (numbers_of words.now) (λ n. numbers_of other.now n && not (numbers_of but.now n)) from) }
+    ensures none { IfNone result (NoneInBoth (numbers_of words.now) (λ n. numbers_of other.now n && not (numbers_of but.now n)) from) }
+{
+    let block = from / 64;
+    let (Ok(start) | Err(start)) = place_for(words, block, near(words, block));
+    let (mut beside, mut out) = (near(other, block), near(but, block));
+    for at in start..words.len() {
+        let word = words[at];
+        let left = Word {
+            block: word.block,
+            bits: word.bits
+                & bits_of(other, word.block, &mut beside)
+                & !bits_of(but, word.block, &mut out),
+        };
+        if let Some(number) = first_from(left, from) {
+            return Some(number);
+        }
+    }
+    None
+}
+
+/// The bits of the word of this block. None of them is set where there is no such word. It is looked for at `near` first, and `near` is left after it.
+#[inline(always)]
+#[tactic(auto, using(crate::proofs::PlaceLemmas::told))]
+fn bits_of(words: &[Word], block: u64, near: &mut usize) -> u64
+    requires { AreWords words.now }
+    ensures { (n : ℕ) → n / 64 ≡ block → test result (n % 64) ≡ numbers_of words.now n }
+{
+    match place_for(words, block, *near) {
+        Ok(at) => {
+            *near = at + 1;
+            words[at].bits
+        }
+        Err(at) => {
+            *near = at;
+            0
+        }
+    }
+}
+
+/// The place of the word of this block, or the one where it would stand: at `near`, or where a search finds it.
+#[inline(always)]
+fn place_for(words: &[Word], block: u64, near: usize) -> Result<usize, usize>
     requires { AreWords words.now }
     ensures { MatchResult result (λ at. IsPlaceFor words.now block at (at + 1)) (λ at. IsPlaceFor words.now block at at) }
 {
-    let first = words.first().map_or(0, |word| word.block);
-    let near = block.saturating_sub(first) as usize;
     match words.get(near) {
         Some(word) if word.block == block => Ok(near),
+        Some(word) if block < word.block && is_after(words, block, near) => Err(near),
+        None if near == words.len() && is_after(words, block, near) => Err(near),
         _ => words.binary_search_by_key(&block, |word| word.block),
     }
+}
+
+/// Whether the words before the place are of lesser blocks than this one.
+#[tactic(auto, using(crate::proofs::PlaceLemmas::lesser))]
+fn is_after(words: &[Word], block: u64, place: usize) -> bool
+    requires words { AreWords words.now }
+    requires place { place ≤ length words.now }
+    ensures { OnTrue result (AllWithin (λ word. word.block < block) words.now 0 place) }
+{
+    place == 0 || words[place - 1].block < block
+}
+
+/// The place where the word of this block stands if no block is left out before it.
+fn near(words: &[Word], block: u64) -> usize {
+    let first = words.first().map_or(0, |word| word.block);
+    block.saturating_sub(first) as usize
 }
 
 /// The first number from `from` on that the word has.

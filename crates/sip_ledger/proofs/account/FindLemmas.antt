@@ -1,5 +1,8 @@
 -- The first debt of an account that a send at the moment t pays, of one message or of those that pass a test: k and `at` are places of gains.
-use Rattle.sip_ledger.proofs.Words.{◌≡◌, ◌≢◌, ℕ, ◌<◌, ◌≤◌, ◌==◌, ◌&&◌, Bool, true, false, not, List, length, ◌+◌, refl, sym, ap, ◌∙◌, arith, All, All-weaker, IfNone, IfSome, IsTrue, MatchOption, Option, None, Some, nat_le, cases_lt, lt-ltb, true≢false, nat_tests, Entry, Account, Gains, Strike, IsFirstPaid, PaysSome, is_payable, AreGains, IsAccount, IsFirstPaying, IsFirstPayable, IsUndropped, IsWithout, PaysSomeAt, account_debts, entries_of, entry_at, must_at, owes_at, pays_at, sooner, IsNextLeft, holds, ap₂, and-false, and_right, cases_eq, eq-eqb, le-leb, lt-leb, ne_eqb, paid_by, is_left, is_struck, strikes_of}
+use Rattle.sip_ledger.proofs.Words.{◌≡◌, ◌≢◌, ℕ, ◌<◌, ◌≤◌, ◌==◌, ◌&&◌, Bool, true, false, not, List, length, ◌+◌, refl, sym, ap, ◌∙◌, arith, All, All-weaker, IfNone, IfSome, IsTrue, MatchOption, Option, None, Some, nat_le, cases_lt, lt-ltb, true≢false, nat_tests, Entry, Account, Gains, Strike, IsFirstPaid, PaysSome, is_payable, AreGains, IsAccount, IsFirstHeld, IsFirstPaying, IsFirstPayable, IsUndropped, IsWithout, PaysSomeAt, account_debts, entries_of, entry_at, must_at, owes_at, pays_at, sooner, IsNextLeft, holds, ap₂, and-false, and_right, cases_eq, eq-eqb, le-leb, lt-leb, ne_eqb, paid_by, is_left, is_struck, strikes_of, eqb-true, subst}
+use Rattle.std.specs.Option.{option_eq}
+use lib.Dec.{eqb}
+use Rattle.sip_numbers.specs.Numbers.{IsFirstInBoth}
 use Rattle.sip_ledger.proofs.debts.ListedLemmas.{listed-each}
 use Rattle.sip_ledger.proofs.debts.OwedLemmas.{removed, paid-behind, paid-is}
 use Rattle.sip_ledger.proofs.gains.LeftLemmas.{held_left, left-kept, owed-left}
@@ -70,7 +73,7 @@ unfolding owes_at
 owes-inside gains strikes a k low high = grind (arith, le-leb, lt-ltb)
 
 -- lemmas for the prover under one name: whether an account owes what was gained at a place
-pub ruleset owed_at_place = (past-end, before-start, owes-inside, kept-start)
+pub ruleset owed_at_place = (nat_tests, cases_eq, cases_lt, true≢false, past-end, before-start, owed-left, owes-inside, kept-start)
 
 -- a gain that a send pays is of its message, and not past
 pays-parts : (message t : ℕ) (entry : Entry) → (entry.message == message && nat_le t entry.deadline) ≡ true → (entry.message ≡ message) × (t ≤ entry.deadline)
@@ -132,6 +135,22 @@ pub newest-first : (gains : Gains) (strikes : List Strike) (a : Account) {test :
     IsFirstTo (entries_of gains) (owes_at gains strikes a) test t (message + 1) (sooner first place) → IsFirstPaying (entries_of gains) (owes_at gains strikes a) test t (sooner first place)
 newest-first gains strikes a message first None gained found newest was = absurd newest
 newest-first gains strikes a message first (Some p) gained found newest was = first-all gains strikes a (sooner first (Some p)) was (λ k early owed under low. grind (arith, nat_tests, pays-parts, left-kept, owed-left))
+
+-- where a test finds the number itself first, the number passes it
+pub found-self : (test : ℕ → Bool) (number : ℕ) (found : Option ℕ) → true ≡ option_eq eqb found (Some number) → IfSome found (IsFirstInBoth test test number) → test number ≡ true
+found-self test number None same first = absurd (true≢false same)
+found-self test number (Some n) same first = subst (λ k. test k ≡ true) (eqb-true n number (sym same)) first.in_one
+
+-- where the account owes the first place of all at which a message that passes the test is left, and a send pays that, it is the first that a send pays
+pub led-first : (gains : Gains) (strikes : List Strike) (a : Account) {test : ℕ → Bool} {t place message : ℕ} → AreGains gains → IsFirstHeld gains.messages test (place, message) →
+    owes_at gains strikes a place ≡ true → t ≤ (entry_at (entries_of gains) place).deadline → test message ≡ true →
+    IsFirstPaying (entries_of gains) (owes_at gains strikes a) test t (Some place)
+led-first gains strikes a {test} {t} {place} {message} gained led owed early passes =
+    let is = (gained.messages message place led.held).1 in (
+      owed,
+      (subst (λ n. test n ≡ true) (sym is) passes, early),
+      λ k before its pays. omega (arith, before, led.first (entry_at (entries_of gains) k).message k pays.0 (held_left gains _ k refl ∙ owed-left gains strikes a k its)),
+    )
 
 -- What follows is of one account, and what a send at the moment t of a message that passes the test pays of it.
 module _ (gains : Gains) (strikes : List Strike) (a : Account) (test : ℕ → Bool) (t : ℕ) where

@@ -1,5 +1,5 @@
 -- What an account owes, place by place: its debts, whether another account owes the same, and the least deadline of what it must send.
-use Rattle.sip_ledger.proofs.Words.{blank, All, All-head, All-tail, fold, IfSome, list_any, MatchOption, max, min, ◌≡◌, ◌≢◌, ℕ, ◌+◌, ◌<◌, ◌≤◌, ◌==◌, ◌&&◌, ◌||◌, Bool, true, false, List, [], ◌∷◌, ◌++◌, length, refl, sym, ap, ◌∙◌, arith, append-nil, nat_tests, IsTrue, Option, Some, None, ◌↔◌, option_to_list, cases_eq, cases_lt, eq-eqb, eqb-true, false_from_ne_true, true≢false, append_cancel_left, length-append, length-take-le, take-append-le, slice_get, take, take_all, Debt, Account, Gains, Strike, debt_deadlines, earliest, debt_of, AreGains, IsAccount, IsAfter, SharesNext, account_debts, entries_of, entry_at, is_left, is_struck, must_at, owes_at, strikes_of, numbers_of, drop}
+use Rattle.sip_ledger.proofs.Words.{blank, All, All-head, All-tail, fold, IfSome, list_any, MatchOption, max, min, ◌≡◌, ◌≢◌, ℕ, ◌+◌, ◌<◌, ◌≤◌, ◌==◌, ◌&&◌, ◌||◌, Bool, true, false, List, [], ◌∷◌, ◌++◌, length, refl, sym, ap, ◌∙◌, arith, append-nil, nat_tests, IsTrue, Option, Some, None, ◌↔◌, option_to_list, cases_eq, cases_lt, eq-eqb, eqb-true, false_from_ne_true, true≢false, append_cancel_left, length-append, length-take-le, slice_get, Debt, Account, Gains, Strike, debt_deadlines, earliest, debt_of, AreGains, IsAccount, IsAfter, SharesNext, account_debts, entries_of, entry_at, is_left, is_struck, must_at, owes_at, strikes_of, numbers_of, drop}
 use Rattle.sip_ledger.proofs.debts.OwedLemmas.{listed-any}
 use Rattle.sip_ledger.proofs.gains.LeftLemmas.{left-kept, owed-left, rising_kept}
 use Rattle.sip_ledger.proofs.debts.ListedLemmas.{back, back-set, front, front-gap, front-next, front-on, listed-each, listed-none, listed-same, parts}
@@ -52,10 +52,6 @@ module _ {gains : Gains} {strikes : List Strike} {a : Account} where
   pub told-start : IsAccount gains strikes a → a.start < a.end → slice_get (account_debts gains strikes a) 0 ≡ Some (debt_of (entry_at (entries_of gains) a.start) (must_at gains a a.start))
   told-start is some = ap (λ l. slice_get l 0) (told-here is (told-none is refl) some)
 
-  -- before a place of it, it owes the first of its debts
-  pub told-first : {place n : ℕ} {debts : List Debt} → IsAccount gains strikes a → IsToldTo gains strikes a place debts → length debts ≡ n → debts ≡ take n (account_debts gains strikes a)
-  told-first {place} {n} {debts} is was long = grind (arith, told-split is was, take_all, take-append-le)
-
 -- an account with something left does not owe what an account at its end owes
 longer : {gains : Gains} {strikes : List Strike} {one other : Account} {at beside : ℕ} {debts : List Debt} → IsAccount gains strikes one → IsAccount gains strikes other →
     IsToldTo gains strikes one at debts → IsToldTo gains strikes other beside debts → at < one.end → other.end ≤ beside → account_debts gains strikes one ≢ account_debts gains strikes other
@@ -93,13 +89,10 @@ module _ {gains : Gains} {strikes : List Strike} {one other : Account} (is : IsA
       let rest = back (owes_at gains strikes one) (must_at gains one) (entries_of gains) (at + 1) in
       let rest_beside = back (owes_at gains strikes other) (must_at gains other) (entries_of gains) (beside + 1) in
       -- before the places both owe the same debts, so if all are the same, so are the debts at the places
-      apart (first (append_cancel_left are.debts (debt_of (entry_at (entries_of gains) at) (must_at gains one at) ∷ rest)
+      let equal = append_cancel_left are.debts (debt_of (entry_at (entries_of gains) at) (must_at gains one at) ∷ rest)
       (debt_of (entry_at (entries_of gains) beside) (must_at gains other beside) ∷ rest_beside)
-      (sym (told-here is are.told inside) ∙ same ∙ told-here is_other are.told_beside inside_beside)))
-    where
-      -- equal lists of debts have the same first debt
-      first : {d d' : Debt} {ds ds' : List Debt} → d ∷ ds ≡ d' ∷ ds' → d ≡ d'
-      first equal = cc
+      (sym (told-here is are.told inside) ∙ same ∙ told-here is_other are.told_beside inside_beside) in
+      apart (cc equal)
 
   -- where one account is at its end, both owe the same exactly if the other one is at its end too
   pub end-same : {at beside : ℕ} → AreAt gains strikes one other at beside → at ≡ one.end → IsTrue (beside == other.end) ↔ (account_debts gains strikes one ≡ account_debts gains strikes other)
@@ -128,7 +121,7 @@ unfolding account_debts owes_at
 alike-debts gains strikes one other start end soft own = grind (arith, nat_tests, listed-same, soft-must)
 
 -- lemmas for the prover under one name: at which places two accounts owe the same, and whether they do so at all
-pub ruleset shared_by_places = (alike-struck, must-alike, alike-debts, kept-start)
+pub ruleset shared_by_places = (alike-struck, must-alike, alike-debts, kept-start, told-none)
 
 -- whether one of the debts must be sent, and until this moment
 unfoldable pub has_due : ℕ → List Debt → Bool
@@ -220,7 +213,7 @@ module _ {gains : Gains} {strikes : List Strike} {a : Account} {from at : ℕ} {
   least-first_due gained is held owed here rises = grind (arith, nat_tests, cases_lt, true≢false, must-parts, must-from, leading, was, gap)
 
 -- lemmas for the prover under one name: what an account owes, from debt to debt
-pub ruleset told_by_place = (kept-start, told-none, told-first, told-all, take_all)
+pub ruleset told_by_place = (kept-start, told-none, told-all)
 
 -- lemmas for the prover under one name: the least deadline of what an account must send first
 pub ruleset led_by_start = (before-start, kept-start, leading)

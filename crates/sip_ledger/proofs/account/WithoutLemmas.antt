@@ -150,7 +150,7 @@ gain-keeps old new debt gain =
     }
 
 -- lemmas for the prover under one name: accounts keep what they owe, whether a gain comes or memory is refused
-pub ruleset gains_keep = (gain-keeps, same-keeps)
+pub ruleset gains_keep = (nat_tests, common_steps, entries_long, gain-keeps, new-gain, same-keeps)
 
 -- lemmas for the prover under one name: an account without what it owes at one place
 pub ruleset lost_at_place = (entries_long, left-kept, owed-left, owed-within, without-first, without-last, without-middle)

@@ -1,10 +1,5 @@
 -- The debts of a list of entries: `o` tells which places are owed, and `m` which of them must be sent.
-use Rattle.sip_ledger.proofs.Words.{blank, common_steps, nat_tests, ◌≡◌, ℕ, suc, ◌+◌, ◌<◌, ◌≤◌, Bool, true, false, ◌&&◌, ◌||◌, cond, List, [], ◌∷◌, ◌++◌, length, take, drop, get_or, map, filter, refl, sym, ap, ◌∙◌, subst, arith, ap₂, All, nat_le, append-nil, drop_more, length-drop, length-take-le, take-append-drop, take-take, take_more, get_or_default, All-nil, All-cons, Debt, Entry, counts_at, softened_debt, debt_of, debts_from, IsGap}
-
--- where P holds of all of a list, and of a first debt if the test lets it stand, it holds of all that stands
-cond-All : (P : Debt → Type 0) (b : Bool) (d : Debt) (xs : List Debt) → (b ≡ true → P d) → All P xs → All P (cond b (d ∷ xs) xs)
-cond-All P true d xs here rest = All-cons P d xs (here refl) rest
-cond-All P false d xs here rest = rest
+use Rattle.sip_ledger.proofs.Words.{blank, cond_both, common_steps, nat_tests, ◌≡◌, ℕ, suc, ◌+◌, ◌<◌, ◌≤◌, Bool, true, false, ◌&&◌, ◌||◌, cond, List, [], ◌∷◌, ◌++◌, length, take, drop, get_or, map, filter, refl, sym, ap, ◌∙◌, subst, arith, ap₂, All, nat_le, append-nil, drop_more, length-drop, length-take-le, take-append-drop, take-take, take_more, get_or_default, All-nil, All-cons, Debt, Entry, counts_at, softened_debt, debt_of, debts_from, IsGap}
 
 -- the debts of two lists of entries together are those of the first list and those of the second, whose places follow
 pub listed-append : (o m : ℕ → Bool) (i : ℕ) (xs ys : List Entry) → debts_from o m i (xs ++ ys) ≡ debts_from o m i xs ++ debts_from o m (i + length xs) ys
@@ -22,20 +17,16 @@ pub listed-none : (o m : ℕ → Bool) (i : ℕ) (xs : List Entry) → ((k : ℕ
 listed-none o m i [] none = refl
 listed-none o m i (x ∷ xs) none = grind (arith, nat_tests, listed-none o m (i + 1) xs)
 
--- there are no more debts than entries
-pub listed-few : (o m : ℕ → Bool) (i : ℕ) (xs : List Entry) → length (debts_from o m i xs) ≤ length xs
-listed-few o m i [] = omega arith
-listed-few o m i (x ∷ xs) = grind (arith, listed-few o m (i + 1) xs)
-
 -- where P holds of the debt of each place that is owed, it holds of all debts
 pub listed-All : (P : Debt → Type 0) (o m : ℕ → Bool) (i : ℕ) (xs : List Entry) →
     ((j : ℕ) (e : Entry) → j < length xs → o (i + j) ≡ true → P (debt_of (get_or xs j e) (m (i + j)))) → All P (debts_from o m i xs)
 listed-All P o m i [] each = All-nil P
 listed-All P o m i (x ∷ xs) each =
     let none : i + 0 ≡ i = omega arith in
-    cond-All P (o i) (debt_of x (m i)) (debts_from o m (i + 1) xs)
-    (λ is. subst (λ n. P (debt_of x (m n))) none (each 0 x (omega arith) (ap o none ∙ is)))
-    (listed-All P o m (i + 1) xs (λ j e below is. grind (arith, each (suc j) e)))
+    let rest = listed-All P o m (i + 1) xs (λ j e below is. grind (arith, each (suc j) e)) in
+    cond_both (o i) (debt_of x (m i) ∷ debts_from o m (i + 1) xs) (debts_from o m (i + 1) xs) (All P)
+    (λ is. All-cons P (debt_of x (m i)) (debts_from o m (i + 1) xs) (subst (λ n. P (debt_of x (m n))) none (each 0 x (omega arith) (ap o none ∙ is))) rest)
+    (λ _. rest)
 
 -- where P holds of the debt of each place that is owed, it holds of all debts that these places have
 pub listed-each : (P : Debt → Type 0) (o m : ℕ → Bool) (entries : List Entry) → ((k : ℕ) → k < length entries → o k ≡ true → P (debt_of (get_or entries k blank) (m k))) →

@@ -3,10 +3,10 @@ use Rattle.sip_ledger.proofs.Words.{leb-true, nat_tests, ◌-◌, ◌<◌, ◌�
 use Rattle.sip_ledger.proofs.debts.ListedLemmas.{listed-none}
 
 -- where one pair comes or goes, all others are held as before
-pub held-updated : (s n : BTreeSet (ℕ × ℕ)) (message place : ℕ) (here : Bool) → UpdatesBy pair_cmp (pair_cmp (message, place)) s n here →
+pub held_updated : (s n : BTreeSet (ℕ × ℕ)) (message place : ℕ) (here : Bool) → UpdatesBy pair_cmp (pair_cmp (message, place)) s n here →
     (m k : ℕ) → holds n.keys m k ≡ cond (m == message && k == place) here (holds s.keys m k)
 unfolding holds
-held-updated s n message place here updates m k =
+held_updated s n message place here updates m k =
     let same : is_eq (pair_cmp (message, place) (m, k)) ≡ (m == message && k == place) = grind (arith, nat_tests) in
     updates.0 (m, k) ∙ ap (λ x. cond x here (holds s.keys m k)) same
 
@@ -25,11 +25,16 @@ pub range-none : (s : BTreeSet (ℕ × ℕ)) (message place : ℕ) → IsKeyRang
 unfolding holds
 range-none s message place h m k after = h.5 refl (m, k) (not_gt-from message place m k after, tt)
 
+-- no message is below that of the first pair
+pub least-held : (s : BTreeSet (ℕ × ℕ)) (first : ℕ × ℕ) → IsLowerBound pair_cmp s first → (m k : ℕ) → holds s.keys m k ≡ true → first.0 ≤ m
+unfolding holds
+least-held s first least m k held = grind (arith, nat_tests)
+
 -- all messages lie between that of the first pair and that of the last one
 pub span-held : (s : BTreeSet (ℕ × ℕ)) (first last : ℕ × ℕ) → IsLowerBound pair_cmp s first → IsUpperBound pair_cmp s last →
     (m k : ℕ) → holds s.keys m k ≡ true → (first.0 ≤ m) × (m ≤ last.0)
 unfolding holds
-span-held s first last least greatest m k held = grind (arith, nat_tests)
+span-held s first last least greatest m k held = (least-held s first least m k held, grind (arith, nat_tests))
 
 -- where there are no pairs, nothing stands under a message
 pub none_held : (pairs : List (ℕ × ℕ)) → ¬ (0 < length pairs) → (m k : ℕ) → ¬ (holds pairs m k ≡ true)

@@ -1,6 +1,5 @@
--- Lists of which each element from one on changes, after which some of them come once more, or of which some come to the front; and how many numbers pass a test.
-use Rattle.sip_ledger.proofs.Words.{nat_tests, Result, Ok, Err, OnOk, is_err, true≢false, ◌≡◌, ◌<◌, ◌≤◌, ◌⊎◌, inl, inr, ℕ, ◌+◌, ◌-◌, Bool, false, List, [], ◌∷◌, ◌++◌, length, drop, take, get_or, set, map, filter, refl, ap, sym, ◌∙◌, arith, cond, append-nil, drop-take, drop_all, get_or-drop, length-append, length-drop, length-map, length-take, take-append-drop, take-append-le, take-take, take_all, All-drop, filter_more, map_fixed, from_to, true, HasMany, get_or_append_left, get_or_push, length_push, All, All-nil, All-push, All-weaker, IsTrue, cases_eq, cases_lt, length-set, get_or-map, get_or_default, get_or-set_same, get_or-set_other, get_or-take, length-take-le, same_lists, All-get_or, Rise}
-use Prim.Native.Nat.{suc, zero}
+-- Lists of which each element from one on changes, after which some of them come once more, or of which some come to the front.
+use Rattle.sip_ledger.proofs.Words.{nat_tests, Result, Ok, Err, OnOk, is_err, true≢false, ◌≡◌, ◌<◌, ◌≤◌, ◌⊎◌, inl, inr, ℕ, ◌+◌, ◌-◌, Bool, false, List, [], ◌∷◌, ◌++◌, length, drop, take, get_or, set, map, filter, refl, ap, sym, ◌∙◌, arith, cond, append-nil, drop-take, drop_all, get_or-drop, length-append, length-drop, length-map, length-take, take-append-drop, take-append-le, take-take, take_all, All-drop, filter_more, map_fixed, from_to, true, All, cases_eq, cases_lt, length-set, get_or-map, get_or_default, get_or-set_same, get_or-set_other, get_or-take, length-take-le, same_lists, All-get_or, Rise, suc, zero}
 
 -- what a result that is no error tells holds
 pub on_ok : {T E : Type 0} (r : Result T E) (P : Type 0) → is_err r ≡ false → OnOk r P → P
@@ -21,29 +20,6 @@ pub record IsKeptTo {X : Type 0} (d : X) (places : List ℕ) (to : ℕ) (old new
 -- a list that rises, and whose numbers are below n, has at most n numbers
 pub rise-few : (places : List ℕ) (n : ℕ) → Rise places → All (λ place. place < n) places → length places ≤ n
 rise-few places n rise within = grind (arith, nat_tests, cases_lt, rise-above, All-get_or)
-
--- at least so many numbers pass the test that are below another one
-pub record HasManyBelow (test : ℕ → Bool) (count below : ℕ) : Type 0 where
-  pub many : HasMany test count
-  pub low : All (λ n. n < below) many.numbers
-
--- no number is below 0
-pub many-none : (test : ℕ → Bool) → HasManyBelow test 0 0
-many-none test = record {
-  many = record { numbers = []; rise = λ i k early late. absurd (omega (arith, late)); many = refl; pass = All-nil (λ n. IsTrue (test n)) };
-  low = All-nil (λ n. n < 0);
-}
-
--- with one that passes the test and is not below that, one number more does
-pub many-more : (test : ℕ → Bool) (count below number : ℕ) → HasManyBelow test count below → below ≤ number → test number ≡ true → HasManyBelow test (count + 1) (number + 1)
-many-more test count below number was after passes =
-    let numbers = was.many.numbers in
-    let rise : Rise (numbers ++ number ∷ []) = λ i k early late.
-    grind (arith, nat_tests, cases_lt, get_or_append_left, length_push, get_or_push, was.many.rise i k, All-get_or) in
-    record {
-      many = record { numbers = numbers ++ number ∷ []; rise = rise; many = grind (arith, length_push, was.many.many); pass = All-push (λ n. IsTrue (test n)) numbers number was.many.pass passes };
-      low = All-push (λ n. n < number + 1) numbers number (All-weaker (λ n. n < below) (λ n. n < number + 1) (λ n low. omega (arith, low, after)) numbers was.low) (omega arith);
-    }
 
 -- where the element at the next place is moved to the front as well, one element more stands there
 pub kept-more : {X : Type 0} (d : X) (places : List ℕ) (to : ℕ) (old new : List X) → IsKeptTo d places to old new → Rise places → to < length places →

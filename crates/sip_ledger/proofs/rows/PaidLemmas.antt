@@ -77,7 +77,7 @@ pub none_late : (gains : Gains) (strikes : List Strike) (a : Account) (t : ℕ) 
 none_late gains strikes a t are late = timely-all t (account_debts gains strikes a) (debts-late gains strikes a t are late)
 
 -- lemmas for the prover under one name: what rows owe once some of them have gained a debt
-pub ruleset gained_by_rows = (changing-all, length-map, changing-front, gained-grown, gained-more, gained-over, on-error)
+pub ruleset gained_by_rows = (nat_tests, common_steps, changing-all, length-map, changing-front, gained-grown, gained-more, gained-over, on-error)
 
 -- a row with no debt that the send pays is left out
 pub other-row : (message t : ℕ) (owes : List Debt) → list_any (is_payable message t) owes ≡ false → [] ≡ paid_rows message t (owes ∷ [])

@@ -1,6 +1,6 @@
 -- Accounts as contracts see them: a list of what each row owes, and the messages that rows owe.
-use Rattle.sip_ledger.proofs.Words.{◌≡◌, ℕ, ◌+◌, ◌<◌, ◌≤◌, ◌==◌, true, false, List, [], ◌∷◌, ◌++◌, length, get_or, get_or-map, map, refl, sym, subst, ap, ◌∙◌, arith, nat_tests, All, Contains, list_any, and-true, cases_eq, cases_lt, eqb-true, false_from_ne_true, le-leb, true≢false, append_assoc, get_or_append_left, get_or_default, get_or_push, length_push, All-get_or, All-map, Contains-append_left, Contains-push, Contains-push_cases, list_any_at, list_any_none, All-cons, All-nil, Debt, Account, Gains, Strike, AppendsOwed, owes_message, some_owes, is_payable, Rise, account_debts, accounts_debts, entries_of, entry_at, must_at, owes_at, holds, common_steps, ◌≢◌, take, set, IsTrue, Option, Some, None, IfSome, IfNone, Result, Ok, Err, IsErr, OnErr, ◌↔◌, is_err, is_some, eq-eqb, drop_min, All-weaker, sum_by-cons, debts_print, owed_in, softened_account, softened_debt, debt_deadlines, earliest, IsNextGain, AreAccounts, AreGains, IsAccount, IsFirstPayable, KeepsAccounts, pays_at, map-append, map-set, length-map, take-map, drop-map, All-take, All-drop, All-push, All-set, ◌^◌}
-use Rattle.sip_ledger.proofs.debts.ListedLemmas.{listed-each, listed-few, listed-softened}
+use Rattle.sip_ledger.proofs.Words.{◌≡◌, ℕ, ◌+◌, ◌<◌, ◌≤◌, ◌==◌, true, false, List, [], ◌∷◌, ◌++◌, length, get_or, get_or-map, map, refl, sym, subst, ap, ◌∙◌, arith, nat_tests, All, Contains, list_any, and-true, cases_eq, cases_lt, eqb-true, false_from_ne_true, le-leb, true≢false, append_assoc, get_or_append_left, get_or_default, get_or_push, length_push, All-get_or, All-map, Contains-append_left, Contains-push, Contains-push_cases, list_any_at, list_any_none, All-cons, All-nil, Debt, Account, Gains, Strike, AppendsOwed, owes_message, some_owes, is_payable, Rise, account_debts, accounts_debts, entries_of, entry_at, must_at, owes_at, holds, common_steps, ◌≢◌, take, set, IsTrue, Option, Some, None, IfSome, IfNone, Result, Ok, Err, IsErr, OnErr, ◌↔◌, is_err, is_some, eq-eqb, drop_min, All-weaker, sum_by-cons, debts_print, owed_in, softened_account, softened_debt, debt_deadlines, earliest, IsNextGain, AreAccounts, AreGains, IsAccount, IsFirstPayable, KeepsAccounts, pays_at, map-append, map-set, length-map, take-map, drop-map, All-take, All-drop, All-push, All-set}
+use Rattle.sip_ledger.proofs.debts.ListedLemmas.{listed-each, listed-softened}
 use Rattle.sip_ledger.proofs.account.AccountLemmas.{kept-start, empty-account, empty-debts, kept-all, must-below, owed-within}
 use Rattle.sip_ledger.proofs.gains.LeftLemmas.{entries_long, held_left, owed-left}
 use Rattle.sip_ledger.proofs.debts.OwedLemmas.{listed-any}
@@ -19,15 +19,11 @@ on-err (Err e) P is p = p
 
 -- What follows is of accounts, and the debts as which contracts see them.
 module _ {gains : Gains} {strikes : List Strike} {rows : List Account} {seen : List (List Debt)} where
-  -- a row of the list that contracts see is the row of one of the accounts
-  pub row-inside : (row : ℕ) → AreAccounts gains strikes rows → accounts_debts gains strikes rows ≡ seen → row < length seen → row < length rows
-  row-inside row are view inside = omega (arith, inside, ap length view, length-map rows (account_debts gains strikes))
-
   -- what stands in a row is an account, and its debts are those that contracts see there
   pub account-at : (row : ℕ) (a : Account) → AreAccounts gains strikes rows → accounts_debts gains strikes rows ≡ seen → row < length seen → a ≡ get_or rows row a →
       IsAccount gains strikes a × (account_debts gains strikes a ≡ owed_in seen row)
   account-at row a are view inside is =
-      let within = row-inside row are view inside in (
+      let within : row < length rows = omega (arith, inside, ap length view, length-map rows (account_debts gains strikes)) in (
         subst (IsAccount gains strikes) (sym is) (All-get_or (IsAccount gains strikes) rows row a within are.each),
         ap (account_debts gains strikes) is ∙ sym (get_or-map (account_debts gains strikes) rows row a [] within) ∙ ap (λ owes. owed_in owes row) view,
       )
@@ -50,11 +46,6 @@ module _ {gains : Gains} {strikes : List Strike} {rows : List Account} {seen : L
   pub over-to : (new : Gains) → KeepsAccounts gains new → AreGains new → AreAccounts gains strikes rows → accounts_debts gains strikes rows ≡ seen →
       AreAccounts new strikes rows × (accounts_debts new strikes rows ≡ seen)
   over-to new keeps gained are view = let all = keeps.each strikes rows are.each in (record { gained = gained; each = all.0 }, all.1 ∙ view)
-
--- an account has no more debts than a number of the code can count
-pub account-few : (gains : Gains) (strikes : List Strike) (a : Account) → AreGains gains → length (account_debts gains strikes a) < 2 ^ 64
-unfolding account_debts
-account-few gains strikes a are = omega (arith, listed-few (owes_at gains strikes a) (must_at gains a) 0 (entries_of gains), entries_long gains are.long, are.small)
 
 -- the debts of a softened account are the softened ones
 soft-debts : (gains : Gains) (strikes : List Strike) (a : Account) (place : ℕ) → a.end ≤ place →
@@ -105,13 +96,13 @@ can-pay gains strikes a message t (Some place) is some none = grind (arith, nat_
 can-pay gains strikes a message t None is some none = grind (arith, nat_tests, list_any_none, All-weaker, false_from_ne_true, unpaid-account)
 
 -- lemmas for the prover under one name: what contracts see of rows of which one changes or comes
-pub ruleset of_changed_row = (account-at, map-set, map-append, All-set, All-push, length-map, empty-account, empty-debts)
+pub ruleset of_changed_row = (nat_tests, common_steps, account-at, map-set, map-append, All-set, All-push, length-map, empty-account, empty-debts)
 
 -- lemmas for the prover under one name: what contracts see of rows, by their accounts
 pub ruleset of_rows = (length-map, account-at, All-cons, All-nil, can-pay, on-err, on-error, over-to, unchanged, All-take, take-map, All-drop, drop-map, drop_min)
 
 -- lemmas for the prover under one name: what a row owes first
-pub ruleset first_of_rows = (account-at, length-map, empty-debts, entries_long, kept-start, told-start)
+pub ruleset first_of_rows = (nat_tests, common_steps, account-at, length-map, empty-debts, entries_long, kept-start, told-start)
 
 -- a send at moment 0 can pay each debt of its message
 pub payable-owes : (message : ℕ) (debts : List Debt) → list_any (is_payable message 0) debts ≡ owes_message message debts

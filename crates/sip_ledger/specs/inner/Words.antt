@@ -11,7 +11,7 @@ pub use Rattle.sip_ledger.specs.Accounts.{AppendsOwed, owed_in, owes_message, pa
 unfoldable pub use Rattle.sip_ledger.specs.Accounts.{debts_print, worth_of}
 pub use Rattle.sip_ledger.specs.Debts.{IsFirstPaid, PaysSome, counts_at, debt_deadlines, earliest, is_payable, is_timely, paid_by, softened_debt}
 pub use Rattle.sip_ledger.specs.Entries.{IsGap, debt_of, debts_from}
-pub use Rattle.sip_ledger.specs.Lists.{HasMany, Rise, from_to}
+pub use Rattle.sip_ledger.specs.Lists.{Rise, from_to}
 pub use Rattle.sip_ledger.specs.Runs.{AreRuns, debts_in}
 pub use Rattle.sip_ledger.specs.declared.accounts.account.Account.{Account}
 pub use Rattle.sip_ledger.specs.declared.accounts.gains.Flags.{Flags}
@@ -21,7 +21,7 @@ pub use Rattle.sip_ledger.specs.declared.debt.Debt.{Debt}
 pub use Rattle.sip_ledger.specs.declared.debt.Entry.{Entry}
 pub use Rattle.sip_ledger.specs.declared.run.Run.{Run}
 pub use Rattle.sip_ledger.specs.inner.Accounts.{AreAccounts, AreAppended, AreFlags, AreGains, AreKept, AreMoved, AreRising, AreSameGains, AreStruckToo, EndsWith, IsAccount, IsAfter, IsClearedTo, IsDropped, IsExpiredTo, IsFirstPaying, IsFirstPayable, IsGain, IsGainAt, IsUndropped, IsLetGo, IsMoved, IsNextGain, IsNoted, IsSeek, IsStruck, IsWithout, IsWritten, KeepsAccounts, PaysSomeAt, Reaches, SharesNext, StartFrom, StrikeToo, StrikesNoneFrom, blank, entry_at, flags_at, is_out, least_after, no_flags, pays_at, softened_account, sooner, strikes_of, accounts_debts}
-pub use Rattle.sip_ledger.specs.inner.Places.{ArePlaces, IsFrom, IsNext, IsNextLeft, pair_cmp}
+pub use Rattle.sip_ledger.specs.inner.Places.{ArePlaces, AreQueues, HasLeft, IsFirstHeld, IsFrom, IsNext, IsNextLeft, IsQueue, Stands, pair_cmp}
 unfoldable pub use Rattle.sip_ledger.specs.inner.Places.{holds}
 unfoldable pub use Rattle.sip_numbers.specs.Numbers.{numbers_of}
 unfoldable pub use Rattle.sip_ledger.specs.inner.Accounts.{account_debts, entries_of, is_left, is_struck, must_at, owes_at}

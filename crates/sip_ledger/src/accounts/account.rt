@@ -1,6 +1,6 @@
 //! What one row owes of what was gained.
-ghost use Rattle.std.specs.Prelude.{◌≡◌, ◌≢◌, ◌↔◌, ◌<◌, ◌≤◌, ◌*◌, ◌%◌, ◌^◌, ◌++◌, ◌∷◌, ◌+◌};
-ghost use Rattle.sip_ledger.specs.inner.Words.{[], ℕ, Bool, true, false, Some, IfOk, IfSome, IfNone, IsTrue, OnOk, OnErr, bit_xor, filter, length, option_to_list, take, OnTrue, counts_at, debt_deadlines, earliest, is_timely, paid_by, worth_of, debt_of, Account, AreGains, IsAccount, IsAfter, IsExpiredTo, IsFirstPaying, IsFirstPayable, IsGainAt, IsUndropped, IsNextGain, IsSeek, IsWithout, KeepsAccounts, SharesNext, account_debts, entries_of, entry_at, is_struck, must_at, owes_at, pays_at, softened_account, sooner, strikes_of, HasMany, numbers_of};
+ghost use Rattle.std.specs.Prelude.{◌≡◌, ◌↔◌, ◌<◌, ◌≤◌, ◌*◌, ◌%◌, ◌^◌, ◌++◌, ◌∷◌, ◌+◌};
+ghost use Rattle.sip_ledger.specs.inner.Words.{[], ℕ, Bool, true, false, Some, IfOk, IfSome, IfNone, IsTrue, bit_xor, filter, length, option_to_list, take, OnTrue, counts_at, debt_deadlines, earliest, is_timely, paid_by, worth_of, debt_of, Account, AreGains, IsAccount, IsAfter, IsExpiredTo, IsFirstPaying, IsFirstPayable, IsGainAt, IsUndropped, IsNextGain, IsSeek, IsWithout, KeepsAccounts, SharesNext, account_debts, entries_of, entry_at, is_struck, must_at, owes_at, pays_at, softened_account, sooner, strikes_of, numbers_of};
 
 use crate::accounts::gains::{Gains, Seek};
 use crate::accounts::strikes::{Strike, Strikes, are_same, first_alone, put, struck_to};
@@ -68,6 +68,7 @@ pub(crate) fn owes(gains: &Gains, strikes: &[Strike], account: Account, place: u
 }
 
 /// The first place from this one on at which the account owes something, or its end.
+#[tactic(auto, using(crate::proofs::account::FindLemmas::owed_at_place))]
 fn next(gains: &Gains, strikes: &[Strike], account: Account, from: usize) -> usize
     requires gained { AreGains gains.now }
     requires account { IsAccount gains.now strikes.now account }
@@ -190,8 +191,7 @@ pub(crate) fn find_first(
 ) -> Option<Option<usize>>
     requires gained { AreGains gains.now }
     requires account { IsAccount gains.now strikes.now account }
-    ensures first { IfSome result (IsFirstPaying (entries_of gains.now) (owes_at gains.now strikes.now account) (numbers_of messages.now) moment) }
-    ensures told { IfNone result (HasMany (numbers_of messages.now) most) }
+    ensures { IfSome result (IsFirstPaying (entries_of gains.now) (owes_at gains.now strikes.now account) (numbers_of messages.now) moment) }
 {
     let mut first = None;
     let mut from = 0;
@@ -213,6 +213,39 @@ pub(crate) fn find_first(
         from = message + 1;
     }
     None
+}
+
+/// What `find_first` finds, however many the messages are. Where the first of them does not tell, it is asked at which place of all one of them is left
+/// first: for the same key, those that were left the last time are not gone through again.
+pub(crate) fn find_some(
+    gains: &mut Gains,
+    strikes: &[Strike],
+    account: Account,
+    key: u64,
+    messages: &Numbers,
+    moment: u64,
+) -> Result<Option<usize>, AllocError>
+    requires gained { AreGains gains.old }
+    requires account { IsAccount gains.old strikes.now account }
+    ensures same { gains.new ≡ gains.old }
+    ensures first { IfOk result (IsFirstPaying (entries_of gains.old) (owes_at gains.old strikes.now account) (numbers_of messages.now) moment) }
+{
+    // Mostly the first of the messages that are left tells.
+    if let Some(found) = find_first(gains, strikes, account, messages, moment, 1) {
+        return Ok(found);
+    }
+    let alloc = *gains.entries.allocator();
+    if let Some((place, message)) = gains.messages.first_among(alloc, key, messages)? {
+        let place = place as usize;
+        if owes(gains, strikes, account, place)
+            && moment <= gains.entry(place).deadline
+            && messages.next_in_both(messages, message) == Some(message)
+        {
+            return Ok(Some(place));
+        }
+    }
+    // No memory has room for as many messages as a number can count.
+    find_first(gains, strikes, account, messages, moment, usize::MAX).ok_or(AllocError)
 }
 
 /// The lesser of two places, where there are some.
@@ -449,27 +482,6 @@ pub(crate) fn gained(
     })
 }
 
-/// The account with what was gained at the place, after all that it owes, and without what is past at the moment. The strikes that were there stay.
-pub(crate) fn gained_and_expired(
-    gains: &Gains,
-    strikes: &mut Strikes,
-    account: Account,
-    debt: Debt,
-    place: usize,
-    moment: u64,
-) -> Made
-    requires gained { AreGains gains.now }
-    requires account { IsAccount gains.now strikes.old.items account }
-    requires next { IsNextGain gains.now strikes.old.items account debt place }
-    ensures kept { take (length strikes.old.items) strikes.new.items ≡ strikes.old.items }
-    ensures account { IfOk result (IsAccount gains.now strikes.new.items) }
-    ensures debts { IfOk result (λ new. account_debts gains.now strikes.new.items new ≡ filter (counts_at moment) (account_debts gains.now strikes.old.items account ++ debt ∷ [])) }
-{
-    let grown = gained(gains, strikes, account, debt, place)?;
-    let left = expired(gains, strikes, grown, moment)?;
-    Ok(left)
-}
-
 /// The least deadline of what the account must send. The first debt is looked at before the index is asked.
 #[tactic(auto, using(crate::proofs::account::ToldLemmas::led_by_start))]
 #[inline(always)]
@@ -486,6 +498,7 @@ pub(crate) fn earliest_must(gains: &Gains, strikes: &[Strike], account: Account)
 }
 
 /// The least deadline of what the account must send, by the index.
+#[tactic(auto, using(crate::proofs::account::WithoutLemmas::lost_at_place))]
 #[inline(never)]
 fn least_must(gains: &Gains, strikes: &[Strike], account: Account) -> Option<u64>
     requires gained { AreGains gains.now }
@@ -616,25 +629,21 @@ pub(crate) fn same(gains: &Gains, strikes: &[Strike], one: Account, other: Accou
     at == one.end && beside == other.end
 }
 
-/// What the account owes first: this many debts, or all where it owes fewer.
+/// What the account owes.
 #[tactic(auto, using(crate::proofs::account::ToldLemmas::told_by_place))]
-pub(crate) fn first_debts(
+pub(crate) fn debts(
     alloc: Global,
     gains: &Gains,
     strikes: &[Strike],
     account: Account,
-    most: usize,
 ) -> Result<Vec<Debt>, AllocError>
     requires gained { AreGains gains.now }
     requires account { IsAccount gains.now strikes.now account }
-    ensures { IfOk result (λ debts. debts.items ≡ take most (account_debts gains.now strikes.now account)) }
+    ensures { IfOk result (λ debts. debts.items ≡ account_debts gains.now strikes.now account) }
 {
     let mut debts = Vec::new(alloc);
     let mut place = account.start;
     while place < account.end {
-        if debts.len() == most {
-            return Ok(debts);
-        }
         debts.push(debt_for(gains, account, place))?;
         place = next(gains, strikes, account, place + 1);
     }

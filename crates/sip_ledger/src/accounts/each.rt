@@ -12,6 +12,7 @@ use std::alloc::{AllocError, Global};
 #[tactic(auto, using(crate::proofs::rows::SeenLemmas::of_rows))]
 impl Accounts {
     /// Whether nothing that the row must send is past at the moment.
+    #[tactic(auto, using(crate::proofs::rows::SeenLemmas::first_of_rows))]
     pub fn is_timely(&self, row: usize, moment: u64) -> bool
         requires { row < length self.now }
         ensures { result ≡ is_timely moment (owed_in self.now row) }

@@ -1,9 +1,8 @@
--- Which debt is the first one whose message has a given To. It is looked for among the oldest debts, one by one, and among the messages of a set.
+-- Which debt is the first one whose message has a given To. It is the first of all, or is looked for among the messages of a set.
 -- `IsFirstPaid P t debts m` says that m is the message of the first debt of which P holds, and that a send of it at t pays that debt; or that there is no m,
 -- and P holds of none.
-use Prim.Native.Nat.{suc, zero}
-use Rattle.std.proofs.lemmas.Bool.{false_from_ne_true}
-use Rattle.sip_machine.proofs.Words.{◌≡◌, ◌<◌, ◌≤◌, ◌∷◌, ◌↔◌, ◌∙◌, ℕ, true, cond, ap, arith, nat_tests, numbers_of, refl, sym, IfSome, Option, None, Some, List, [], take, All, get_or, length, subst, All-cons, All-get_or, All-head, All-nil, All-tail, Debt, IsFirstPaid, PaysSome, is_payable, paid_by, owed_in, owes_names, Texts, Keeps, text_of, HasAll, HasTo, All-back, All-front, IsWithoutFirst-alike, All-names, FindsFirst, AreBetween, IsToOf}
+use Rattle.std.proofs.lemmas.Option.{slice_get_within}
+use Rattle.sip_machine.proofs.Words.{◌≡◌, ◌<◌, ◌∷◌, ◌↔◌, ℕ, true, ap, arith, nat_tests, numbers_of, sym, IfSome, Option, None, Some, List, [], All, get_or, length, subst, All-get_or, All-head, All-nil, Debt, IsFirstPaid, PaysSome, paid_by, owed_in, owes_names, Texts, Keeps, text_of, HasAll, HasTo, All-back, All-front, IsWithoutFirst-alike, All-names, FindsFirst, AreBetween, IsToOf, slice_get, get_or_from_slice_get}
 use Rattle.sip_numbers.specs.declared.numbers.Word.{Word}
 
 -- where P and Q hold of the same debts, the first debt of which P holds is the first of which Q holds
@@ -55,41 +54,17 @@ module _ (texts : Texts) (to : List ℕ) (t : ℕ) where
     pub only : (n : ℕ) → numbers_of set n ≡ true → IsToOf (text_of texts n) to
     pub each : All (λ n. IsToOf (text_of texts n) to → numbers_of set n ≡ true) names
 
-  -- a send of a message pays a debt of it whose deadline is not before t
-  payable : (debt : Debt) → t ≤ debt.deadline → is_payable debt.message t debt ≡ true
-  payable debt now = grind (arith, nat_tests)
-
-  -- a send of a message with the To pays only debts of messages that have it
-  pays : (message : ℕ) (debt : Debt) → IsToOf (text_of texts message) to → is_payable message t debt ≡ true → Has debt
-  pays message debt its paid =
-      let same : debt.message ≡ message = grind (arith, nat_tests) in
-      (subst (λ n. IsToOf (text_of texts n) to) (sym same) its, grind (arith, nat_tests))
-
-  -- where the message of a debt has the To, and that of no payable debt before it, that is the debt that is found
-  pub first-at : (debts : List Debt) (at : ℕ) (d : Debt) → at < length debts → All (λ x. ¬ (Has x)) (take at debts) → Has (get_or debts at d) →
-      FindsFirst Has t debts (Some (get_or debts at d).message)
-  first-at [] at d low none has = absurd (omega (arith, low))
-  first-at (debt ∷ debts) zero d low none has = record {
-    before = [];
-    first = debt;
-    after = debts;
-    whole = refl;
-    holds = has;
-    none_before = All-nil (λ x. ¬ (Has x));
-    rest = ap (λ b. cond b debts (debt ∷ paid_by debt.message t debts)) (payable debt has.1);
-  }
-  -- the first debt is not paid, and the one is among the others
-  first-at (debt ∷ debts) (suc at) d low none has =
-      let message = (get_or debts at d).message in
-      let fails = All-head (λ x. ¬ (Has x)) debt (take at debts) none in
-      let one = first-at debts at d (omega (arith, low)) (All-tail (λ x. ¬ (Has x)) debt (take at debts) none) has in
+  -- where the message of the first debt has the To, and its deadline is not before t, that is the debt that is found
+  pub first-is : (debts : List Debt) (debt : Debt) → slice_get debts 0 ≡ Some debt → Has debt → FindsFirst Has t debts (Some debt.message)
+  first-is [] debt is has = absurd (omega (arith, slice_get_within [] 0 debt is))
+  first-is (first ∷ debts) debt is has =
+      let same : first ≡ debt = get_or_from_slice_get (first ∷ debts) 0 debt debt is in
       record {
-        before = debt ∷ one.before;
-        first = one.first;
-        after = one.after;
-        whole = ap (λ ds. debt ∷ ds) one.whole;
-        holds = one.holds;
-        none_before = All-cons (λ x. ¬ (Has x)) debt one.before fails one.none_before;
-        rest = ap (λ b. cond b debts (debt ∷ paid_by message t debts))
-            (false_from_ne_true (is_payable message t debt) (λ paid. fails (pays message debt has.0 paid))) ∙ ap (λ ds. debt ∷ ds) one.rest;
+        before = [];
+        first = debt;
+        after = debts;
+        whole = ap (λ d. d ∷ debts) same;
+        holds = has;
+        none_before = All-nil (λ x. ¬ (Has x));
+        rest = grind (arith, nat_tests, same);
       }

@@ -1,6 +1,8 @@
 -- The To that stands beside a kept message stays what it is, and tells which of the messages has a To. The numbers of messages stand under the hashes of Tos.
-use Rattle.sip_machine.proofs.Words.{◌≡◌, ◌<◌, ◌≤◌, ◌↔◌, ◌-◌, ℕ, Bool, true, false, IsTrue, Option, None, Some, bytes_eq, List, [], ◌∷◌, ◌++◌, All, AllPairs, Contains, length, map, slice_get, take, items_where_true, bytes_decides, sym, ◌∙◌, ap, subst, arith, get_or, nat_lt, nat_tests, and-false, cases_lt, ne_eqb, get_or_picked, get_or_from_slice_get, get_or-map, get_or-take, length-map, length-take-le, take_all, All-contains, All-contains_itself, All-from_retain, IsFiltered, All-get_or, All-push, All-take, All-weaker, AllPairs-cons, AllPairs-head, AllPairs-tail, same_reading, solid, Texts, IsBook, Keeps, text_of, only, To, full_hash, numbers_of, IsToOf, IsTo, AreTos, AreUnder, HasAll, IsChanged, count_between, cond, ◌==◌}
+use Rattle.sip_machine.proofs.Words.{◌≡◌, ◌<◌, ◌≤◌, ◌↔◌, ◌-◌, ℕ, Bool, true, false, IsTrue, Option, None, Some, bytes_eq, List, [], ◌∷◌, ◌++◌, All, AllPairs, Contains, length, map, slice_get, take, items_where_true, bytes_decides, sym, ◌∙◌, ap, subst, arith, get_or, nat_lt, nat_tests, and-false, cases_lt, ne_eqb, get_or_picked, get_or_from_slice_get, get_or-map, get_or-take, length-map, length-take-le, take_all, All-contains, All-contains_itself, All-from_retain, IsFiltered, All-push, All-take, All-weaker, AllPairs-cons, AllPairs-head, AllPairs-tail, same_reading, solid, Texts, IsBook, Keeps, text_of, only, To, full_hash, numbers_of, IsToOf, IsTo, AreTos, AreUnder, HasAll, IsChanged, count_between, cond, ◌==◌}
 use Rattle.std.specs.BTreeMap.{is_at}
+use Rattle.std.specs.Option.{option_copied, unwrap_or}
+use Rattle.std.proofs.Common.{Bor, true≢false}
 use Rattle.std.specs.Map.{lookup}
 use Rattle.std.specs.Ordering.{nat_cmp}
 use Rattle.sip_numbers.specs.declared.numbers.Word.{Word}
@@ -29,8 +31,10 @@ moved_to texts more to kept same is = record { kept = kept; text = subst (λ byt
 -- where a message is added to the book, the Tos stay those of kept messages
 pub AreTos-grow : (texts : Texts) (entry : ℕ) (bytes : List ℕ) (tos : List To) → AreTos texts tos → AreTos (texts ++ (entry, bytes) ∷ []) tos
 AreTos-grow texts entry bytes tos all = record {
-  each = All-weaker (IsTo texts) (IsTo (texts ++ (entry, bytes) ∷ [])) (λ to is.
-      moved_to texts (texts ++ (entry, bytes) ∷ []) to (Keeps-grow texts entry bytes to.number is.kept) (text_of-grow texts entry bytes to.number is.kept) is) tos all.each;
+  each = λ k d low.
+      let is = all.each k d low in
+      let number = (get_or tos k d).number in
+      moved_to texts (texts ++ (entry, bytes) ∷ []) (get_or tos k d) (Keeps-grow texts entry bytes number is.kept) (text_of-grow texts entry bytes number is.kept) is;
 }
 
 -- Tos that are some of those of kept messages are those of kept messages
@@ -76,17 +80,14 @@ front_below tos last up is = λ k d low.
     let before : k < length tos - 1 = omega (arith, low, length-take-le (length tos - 1) tos (omega arith)) in
     rw (get_or-take (length tos - 1) tos k d before) (before_last tos last up is k d before)
 
--- what holds of all elements of a list holds of those that are picked
-pub All-picked : {X : Type 0} (P : X → Type 0) (bs : List Bool) (xs : List X) → All P xs → All P (items_where_true bs xs)
-All-picked P bs xs all = grind (arith, get_or_picked)
-
 -- what relates each pair of a list, in order, relates each pair of those that are picked
-pub AllPairs-picked : {X : Type 0} (R : X → X → Type 0) (bs : List Bool) (xs : List X) → AllPairs R xs → AllPairs R (items_where_true bs xs)
+AllPairs-picked : {X : Type 0} (R : X → X → Type 0) (bs : List Bool) (xs : List X) → AllPairs R xs → AllPairs R (items_where_true bs xs)
 AllPairs-picked R [] xs up = λ i j d lt low. absurd (omega arith)
 AllPairs-picked R (b ∷ bs) [] up = λ i j d lt low. absurd (omega arith)
 -- the first element is picked, and R relates it to each later one; or it is left out
 AllPairs-picked R (true ∷ bs) (x ∷ xs) up =
-    AllPairs-cons R x (items_where_true bs xs) (All-picked (R x) bs xs (AllPairs-head R x xs up)) (AllPairs-picked R bs xs (AllPairs-tail R x xs up))
+    let later = AllPairs-head R x xs up in
+    AllPairs-cons R x (items_where_true bs xs) (grind (arith, get_or_picked)) (AllPairs-picked R bs xs (AllPairs-tail R x xs up))
 AllPairs-picked R (false ∷ bs) (x ∷ xs) up = AllPairs-picked R bs xs (AllPairs-tail R x xs up)
 
 -- What follows is of Tos and what a test leaves of them, as `retain` leaves it.
@@ -99,9 +100,10 @@ module _ {F : Type 0} (R : F → To → Bool → F → Type 0) (f : F) (tos left
   pub left-over : (numbers : List ℕ) → ((to : To) (b : Bool) (g : F) → R f to b g → (b ≡ true → Contains numbers to.number) × (g ≡ f)) →
       All (λ to. Contains tos to × Contains numbers to.number) left
   left-over numbers passes =
-      let some = subst (All (Contains tos)) (sym kept.4) (All-picked (Contains tos) kept.0 tos (All-contains_itself tos)) in
-      let among = All-from_retain R (λ to. Contains numbers to.number) f passes tos left kept in
-      λ k d low. (some k d low, among k d low)
+      λ k d low.
+      let (_, (j, within, is)) = get_or_picked kept.0 tos k d (rw kept.4 at low) in
+      let has = subst (Contains tos) (sym is) (All-contains_itself tos j d within) in
+      (rw kept.4 has, All-from_retain R (λ to. Contains numbers to.number) f passes tos left kept k d low)
 
 -- what relates each pair of a list, in order, relates each pair of its first elements
 pub AllPairs-take : {X : Type 0} (R : X → X → Type 0) (n : ℕ) (xs : List X) → AllPairs R xs → AllPairs R (take n xs)
@@ -121,11 +123,6 @@ module _ (old : Sets) (hash number : ℕ) (is_there : Bool) (there : Option (Lis
   unfolding stands
   set-changed new set each has h n = grind (arith, nat_tests, is, each h, has n)
 
-  -- where no set stands there, to take the number changes nothing
-  pub none-taken : there ≡ None → is_there ≡ false → IsChanged hash number is_there old old
-  unfolding stands
-  none-taken none gone h n = grind (arith, nat_tests, is, none, gone)
-
 -- where the number of a To is put under its hash, it stands there after the others, and these stand under theirs
 pub under-put : (to : To) (old new : Sets) (tos : List To) → IsChanged (full_hash to.text) to.number true old new → AreUnder tos old →
     AreUnder (tos ++ to ∷ []) new
@@ -143,12 +140,17 @@ under-taken hash number old new n tos changed lower under = λ k d low.
     let to = get_or (take n tos) k d in
     grind (arith, nat_tests, changed (full_hash to.text) to.number, ne_eqb, and-false)
 
--- the set that is found under the hash of a To has the numbers of all Tos of the list that are the same
-pub under-found : (sets : Sets) (tos : List To) (to : List ℕ) (hash : ℕ) (found : Option (List Word)) → hash ≡ full_hash to →
-    found ≡ lookup (is_at (nat_cmp hash)) sets.entries → AreUnder tos sets → All (λ its. its.text ≡ to → is_in found its.number ≡ true) tos
+-- the set that is found under the hash of a To has the numbers of all Tos of the list that are the same; `none` is told where none is found
+pub under-found : (sets : Sets) (tos : List To) (to : List ℕ) (hash : ℕ) (found : Option (Bor (List Word))) (none : Bor (List Word)) → hash ≡ full_hash to →
+    option_copied found ≡ lookup (is_at (nat_cmp hash)) sets.entries → AreUnder tos sets → All (λ its. its.text ≡ to → numbers_of (unwrap_or found none).now its.number ≡ true) tos
 unfolding stands
-under-found sets tos to hash found of_to is under = λ k d low same.
-    ap (λ o. is_in o (get_or tos k d).number) (is ∙ ap (λ h. lookup (is_at (nat_cmp h)) sets.entries) (of_to ∙ ap full_hash (sym same))) ∙ under k d low
+under-found sets tos to hash found none of_to is under = λ k d low same. has found (get_or tos k d).number
+    (ap (λ o. is_in o (get_or tos k d).number) (is ∙ ap (λ h. lookup (is_at (nat_cmp h)) sets.entries) (of_to ∙ ap full_hash (sym same))) ∙ under k d low)
+  where
+    -- a number that is in the set that is found is in what is told
+    has : (found : Option (Bor (List Word))) (n : ℕ) → is_in (option_copied found) n ≡ true → numbers_of (unwrap_or found none).now n ≡ true
+    has None n gone = absurd (true≢false (sym gone))
+    has (Some set) n there = there
 
 -- where the values that f gives rise along a list, the list of these values rises
 pub AllPairs-map : {X : Type 0} (f : X → ℕ) (xs : List X) → AllPairs (λ a b. f a < f b) xs → AllPairs (λ a b. a < b) (map f xs)
@@ -157,33 +159,25 @@ AllPairs-map f (x ∷ xs) up = λ i j d lt low.
     let high : j < length (x ∷ xs) = rw length-map at low in
     rw (get_or-map f (x ∷ xs) i x d (omega (arith, lt, high)), get_or-map f (x ∷ xs) j x d high) (up i j x lt high)
 
--- a message whose To is in the list is kept
-numbers_kept : (texts : Texts) (tos : List To) → AreTos texts tos → (n : ℕ) → Contains (map (λ to. to.number) tos) n → Keeps texts n
-numbers_kept texts tos are n (i, within, at) =
-    let low : i < length tos = rw length-map at within in
-    let its = All-get_or (IsTo texts) tos i nobody low are.each in
-    subst (Keeps texts) (sym (get_or-map (λ to. to.number) tos i nobody n low) ∙ at) its.kept
+-- a number that is one of those of the Tos of a list is that of the To at some place
+placed : (tos : List To) (n : ℕ) → Contains (map (λ to. to.number) tos) n → (i : ℕ) × (i < length tos) × ((get_or tos i nobody).number ≡ n)
+placed tos n (i, within, at) = let low : i < length tos = rw length-map at within in (i, low, sym (get_or-map (λ to. to.number) tos i nobody n low) ∙ at)
 
--- What follows is of the kept messages with numbers from `low` up to `high`, where as many Tos with such numbers are in the list.
-module _ (texts : Texts) (tos : List To) (low high : ℕ) (book : IsBook texts) (are : AreTos texts tos) (up : AllPairs below tos)
-    (as_many : count_between low high (map (λ k. k.0) texts) ≡ count_between low high (map (λ to. to.number) tos)) where
-  -- each kept message with a number from low up to high has its To in the list
-  beside : (number : ℕ) → Keeps texts number → low ≤ number → number ≤ high → (i : ℕ) × (i < length tos) × ((get_or tos i nobody).number ≡ number)
-  beside number kept from to =
-      -- there are as many Tos as messages between the two numbers, and each To is that of a kept message; so each message has one
-      let le : low ≤ high = omega (arith, from, to) in
-      let as_few : many low high (map (λ k. k.0) texts) ≤ many low high (map (λ to. to.number) tos) =
-      omega (arith, as_many, count_between-is low high (map (λ k. k.0) texts) le, count_between-is low high (map (λ to. to.number) tos) le) in
-      let (i, within, at) = among-all low high (map (λ k. k.0) texts) (map (λ to. to.number) tos) (AllPairs-map (λ k. k.0) texts book.rising) (AllPairs-map (λ to. to.number) tos up)
-      (numbers_kept texts tos are) as_few number kept from to in
-      (i, rw length-map at within, sym (get_or-map (λ to. to.number) tos i nobody number (rw length-map at within)) ∙ at)
-
-  -- a set with the numbers of all Tos of the list that are this one has those of all such messages
-  pub has-all : (to : List ℕ) (set : List Word) → All (λ its. its.text ≡ to → numbers_of set its.number ≡ true) tos → HasAll texts low high to set
-  has-all to set all = λ number kept from to_high is.
-      let (i, within, at) = beside number kept from to_high in
-      let there = get_or tos i nobody in
-      -- the To that stands there is the message's one To
-      let its = All-get_or (IsTo texts) tos i nobody within are.each in
-      let same = IsToOf-one (text_of texts number) to there.text (subst (λ n. IsToOf (text_of texts n) there.text) at its.text) is in
-      subst (λ n. numbers_of set n ≡ true) at (All-get_or (λ its. its.text ≡ to → numbers_of set its.number ≡ true) tos i nobody within all same)
+-- where as many Tos with numbers from `low` up to `high` are in the list as messages with such numbers are kept, a set with the numbers of all Tos of the list
+-- that are this one has those of all such messages
+pub has-all : (texts : Texts) (tos : List To) (low high : ℕ) → IsBook texts → AreTos texts tos → AllPairs below tos →
+    count_between low high (map (λ k. k.0) texts) ≡ count_between low high (map (λ to. to.number) tos) → (to : List ℕ) (set : List Word) →
+    All (λ its. its.text ≡ to → numbers_of set its.number ≡ true) tos → HasAll texts low high to set
+has-all texts tos low high book are up as_many to set all = λ number kept from to_high is.
+    let kept_numbers = map (λ k. k.0) texts in
+    let numbers = map (λ to. to.number) tos in
+    -- there are as many Tos as messages between the two numbers, and each To is that of a kept message; so each message has one
+    let le : low ≤ high = omega (arith, from, to_high) in
+    let as_few : many low high kept_numbers ≤ many low high numbers = omega (arith, as_many, count_between-is low high kept_numbers le, count_between-is low high numbers le) in
+    let its_kept : (n : ℕ) → Contains numbers n → Keeps texts n = λ n has. let (i, within, at) = placed tos n has in subst (Keeps texts) at (are.each i nobody within).kept in
+    let (i, within, at) = placed tos number (among-all low high kept_numbers numbers (AllPairs-map (λ k. k.0) texts book.rising) (AllPairs-map (λ to. to.number) tos up)
+    its_kept as_few number kept from to_high) in
+    -- the To that stands there is the message's one To
+    let there = get_or tos i nobody in
+    let same = IsToOf-one (text_of texts number) to there.text (subst (λ n. IsToOf (text_of texts n) there.text) at (are.each i nobody within).text) is in
+    subst (λ n. numbers_of set n ≡ true) at (all i nobody within same)

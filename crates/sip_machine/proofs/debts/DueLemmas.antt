@@ -1,6 +1,7 @@
 -- What many states owe: what a send takes out of the debts of one state, and states that owe nothing.
 use Prim.Native.Nat.{suc, zero}
-use Rattle.sip_machine.proofs.Words.{take_min, take-replicate, length-replicate, ◌≤◌, ◌≡◌, ◌<◌, ◌-◌, ◌||◌, ℕ, Bool, true, false, IsTrue, List, [], ◌∷◌, ◌++◌, All, filter, length, min, set, take, list_any, refl, sym, ◌∙◌, ap, ap₂, arith, cond, true≢false, list_any_at, All-nil, All-cons, filter-append, get_or-set_same, set-get_or, Debt, counts_at, is_payable, paid_by, IsWithoutFirst, owed_in, blank_rows}
+use Rattle.std.proofs.lemmas.List.{set-set}
+use Rattle.sip_machine.proofs.Words.{take_min, take-replicate, length-replicate, ◌≤◌, ◌≡◌, ◌<◌, ◌||◌, ℕ, Bool, true, false, IsTrue, List, [], ◌∷◌, ◌++◌, All, filter, length, min, set, take, list_any, refl, sym, ◌∙◌, ap, ap₂, arith, cond, true≢false, list_any_at, All-nil, All-cons, filter-append, get_or-set_same, set-get_or, Debt, counts_at, is_payable, paid_by, IsWithoutFirst, owed_in, blank_rows}
 
 -- What follows is of a send of one message at the moment t, which can pay one of the debts, or none.
 module _ (message t : ℕ) where
@@ -62,13 +63,7 @@ take_none count n =
 -- a row that is changed and then changed again is as if it was changed once, to what the second change makes of the first
 pub set_again : (rows : List (List Debt)) (row : ℕ) (debts : List Debt) (f : List Debt → List Debt) → row < length rows →
     set (set rows row debts) row (f (owed_in (set rows row debts) row)) ≡ set rows row (f debts)
-set_again rows row debts f low = ap (λ x. set (set rows row debts) row (f x)) (get_or-set_same rows row debts [] low) ∙ set-twice rows row debts (f debts)
-  where
-    -- of two changes of one row the second stays
-    set-twice : (rows : List (List Debt)) (row : ℕ) (x y : List Debt) → set (set rows row x) row y ≡ set rows row y
-    set-twice [] row x y = refl
-    set-twice (r ∷ rows) zero x y = refl
-    set-twice (r ∷ rows) (suc row) x y = ap (λ rs. r ∷ rs) (set-twice rows row x y)
+set_again rows row debts f low = ap (λ x. set (set rows row debts) row (f x)) (get_or-set_same rows row debts [] low) ∙ set-set rows row debts (f debts)
 
 -- a debt that is gained counts at its own moment, so that dropping what has expired before or after comes to the same
 pub counted-gain : (t : ℕ) (owes : List Debt) (debt : Debt) → t ≤ debt.deadline → filter (counts_at t) (owes ++ debt ∷ []) ≡ filter (counts_at t) owes ++ debt ∷ []

@@ -20,10 +20,6 @@ mapped-none f count from is =
     let all = All-drop (λ owes. f owes ≡ owes) from (blank_rows count) (All-replicate (λ owes. f owes ≡ owes) count [] is) in
     grind (arith, map_fixed f (drop from (blank_rows count)) all, take-append-drop)
 
--- of rows that owe nothing, those from one index up to another owe nothing
-some-none : (count from to : ℕ) → to ≤ count → from_to from to (blank_rows count) ≡ blank_rows (to - from)
-some-none count from to le = ap (drop from) (take-replicate to count [] le) ∙ drop-replicate from to []
-
 -- rows that owe nothing all pass the test, or none does; b says whether one passes it
 passing : (p : List Debt → Bool) (n : ℕ) (b : Bool) → p [] ≡ b → filter p (blank_rows n) ≡ blank_rows (cond b n 0)
 passing p zero true is = refl
@@ -34,11 +30,11 @@ passing p (suc n) false is = ap (λ b. cond b ([] ∷ filter p (blank_rows n)) (
 -- of rows that owe nothing, the timely ones from one index up to another, put after the others, are as many such rows more: all are timely
 pub timely-none : (t count from to : ℕ) → to ≤ count →
     blank_rows (count + (to - from)) ≡ blank_rows count ++ filter (is_timely t) (from_to from to (blank_rows count))
-timely-none t count from to le = grind (arith, replicate-append-replicate, passing (is_timely t) (to - from) true refl, some-none)
+timely-none t count from to le = grind (arith, replicate-append-replicate, passing (is_timely t) (to - from) true refl, take-replicate, drop-replicate)
 
 -- of rows that owe nothing, none pays
 pub paid-none : (message t count from to : ℕ) → to ≤ count → blank_rows count ≡ blank_rows count ++ paid_rows message t (from_to from to (blank_rows count))
-paid-none message t count from to le = grind (arith, nat_tests, some-none, passing (λ owes. list_any (is_payable message t) owes && is_timely t owes) (to - from) false refl, append-nil)
+paid-none message t count from to le = grind (arith, nat_tests, take-replicate, drop-replicate, passing (λ owes. list_any (is_payable message t) owes && is_timely t owes) (to - from) false refl, append-nil)
 
 -- of rows that owe nothing, those at some indices owe nothing
 pub kept-none : (count : ℕ) (kept : List ℕ) → blank_rows (length kept) ≡ map (owed_in (blank_rows count)) kept

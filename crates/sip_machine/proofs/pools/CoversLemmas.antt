@@ -25,11 +25,7 @@ module _ {X S : Type 0} where
   -- where nothing leads from each of some states to y, nothing leads from one of them to y
   pub FromSome-none : (P : S → X → Type 0) (xs : List S) (y : X) → All (λ x. ¬ (P x y)) xs → FromSome P xs y → ⊥
   FromSome-none P [] y none h = h
-  FromSome-none P (x ∷ xs) y none h =
-      elim h [
-        | inl here ↦ All-head (λ x. ¬ (P x y)) x xs none here
-        | inr rest ↦ FromSome-none P xs y (All-tail (λ x. ¬ (P x y)) x xs none) rest
-      ]
+  FromSome-none P (x ∷ xs) y none h = grind (arith, nat_tests, All-head (λ x. ¬ (P x y)) x xs none, FromSome-none P xs y (All-tail (λ x. ¬ (P x y)) x xs none))
 
 -- What follows is of states of the code: `seen` gives what one stands for beside the book, `names` what it names, and InRange bounds its numbers.
 module _ {X S : Type 0} (names : S → List ℕ) (InRange : S → Type 0) (seen : Texts → S → X) (texts : Texts) where
@@ -69,13 +65,8 @@ module _ {X S : Type 0} (names : S → List ℕ) (InRange : S → Type 0) (seen 
   Covers-one P None none = Covers-none P none
   Covers-one P (Some s) one = Covers-stood P (s ∷ []) (StandFor-one names InRange seen texts P s one)
 
-  -- the answer of a state and the others are the answer, if the state passes the test, and the others
-  answers-front : (b : Bool) (s : S) (ys : List S) → cond b (s ∷ ys) ys ≡ option_to_list (cond b (Some s) None) ++ ys
-  answers-front true s ys = refl
-  answers-front false s ys = refl
-
-  -- to map a list, before which x stands if b is true, is to map the list and put g x before it if b is true
-  map-passing : (b : Bool) (g : S → S) (x : S) (xs : List S) → map g (cond b (x ∷ xs) xs) ≡ cond b (g x ∷ map g xs) (map g xs)
+  -- to map a list, before which x stands if b is true, is to map the list and put the answer g x, if b is true, before it
+  map-passing : (b : Bool) (g : S → S) (x : S) (xs : List S) → map g (cond b (x ∷ xs) xs) ≡ option_to_list (cond b (Some (g x)) None) ++ map g xs
   map-passing true g x xs = refl
   map-passing false g x xs = refl
 
@@ -87,7 +78,7 @@ module _ {X S : Type 0} (names : S → List ℕ) (InRange : S → Type 0) (seen 
       -- the first state gives its answer, if it passes, and the others cover what leads from them
       let here = All-head (λ x. AnswersOne names InRange seen texts (P x) (cond (test x) (Some (g x)) None)) x xs all in
       let more = answers-cover P test g xs (All-tail (λ x. AnswersOne names InRange seen texts (P x) (cond (test x) (Some (g x)) None)) x xs all) in
-      subst (Cover (FromSome P (x ∷ xs))) (sym (map-passing (test x) g x (filter test xs) ∙ answers-front (test x) (g x) (map g (filter test xs))))
+      subst (Cover (FromSome P (x ∷ xs))) (sym (map-passing (test x) g x (filter test xs)))
       (Covers-both (P x) (FromSome P xs) (option_to_list (cond (test x) (Some (g x)) None)) (map g (filter test xs)) (Covers-one (P x) (cond (test x) (Some (g x)) None) here) more)
 
 -- What follows is of the states of a pool, after which others were found.
@@ -121,10 +112,6 @@ module _ {X S : Type 0} (names : S → List ℕ) (InRange : S → Type 0) (seen 
 
 -- What follows is of parts of a list of states, from one index up to another.
 module _ {S : Type 0} where
-  -- what holds of the first `count` states holds of those from one index up to another, if the latter is not above `count`
-  pub slice-all : (P : S → Type 0) (from to count : ℕ) (xs : List S) → to ≤ count → All P (take count xs) → All P (from_to from to xs)
-  slice-all P from to count xs le all = All-drop P from (take to xs) (subst (All P) (take-take to count xs le) (All-take P to (take count xs) all))
-
   -- where others are put after the states, those from one index up to another are the same
   pub slice-old : (from to : ℕ) (old found new : List S) → new ≡ old ++ found → to ≤ length old → from_to from to new ≡ from_to from to old
   slice-old from to old found new is le = ap (from_to from to) is ∙ ap (drop from) (take-append-le to old found le)
@@ -132,15 +119,11 @@ module _ {S : Type 0} where
   -- where others are put after the states, what holds of the first `count` ones holds of those from one index up to another that is not above `count`
   pub slice-kept : (P : S → Type 0) (from to count : ℕ) (old found new : List S) → new ≡ old ++ found → to ≤ count → count ≤ length old → All P (take count old) → All P (from_to from to new)
   slice-kept P from to count old found new is order le all =
-      subst (All P) (sym (slice-old from to old found new is (omega (arith, order, le)))) (slice-all P from to count old order all)
+      rw (slice-old from to old found new is (omega (arith, order, le)), ← take-take to count old order) (All-drop P from (take to (take count old)) (All-take P to (take count old) all))
 
   -- the state at index k of a list is the one at k - from of those from `from` on
   pub slice-get : (from to k : ℕ) (xs : List S) (d : S) → from ≤ k → k < to → get_or (from_to from to xs) (k - from) d ≡ get_or xs k d
   slice-get from to k xs d le low = grind (arith, get_or-drop, get_or-take)
-
-  -- the states up to `to` are those up to `at` and those from there up to `to`
-  pub take-slice : (at to : ℕ) (xs : List S) → at ≤ to → take to xs ≡ take at xs ++ from_to at to xs
-  take-slice at to xs le = sym (take-append-drop at (take to xs)) ∙ ap (λ ys. ys ++ from_to at to xs) (take-take at to xs le)
 
   -- where states were put after the old ones, and later ones left all these as they were, the old ones are as they were
   pub before-more : (old mid new added : List S) → mid ≡ old ++ added → take (length mid) new ≡ mid → take (length old) new ≡ old
@@ -157,5 +140,5 @@ module _ {X S : Type 0} (names : S → List ℕ) (InRange : S → Type 0) (seen 
   pub found-run : (at end : ℕ) (old mid new : List S) → at < end → end ≤ length old → HasFound names InRange seen texts P (take at old) old mid →
       HasFound names InRange seen texts P (from_to at end mid) mid new → HasFound names InRange seen texts P (take end old) old new
   found-run at end old mid new order within (found, is, covers) (added, new_is, more) =
-      found-more names InRange seen texts P (take at old) (from_to at end old) (take end old) old mid new added (take-slice at end old (omega (arith, order))) (found, is, covers) new_is
-      (subst (λ xs. Covers names InRange seen texts (FromSome P xs) added) (slice-old at end old found mid is within) more)
+      let whole = sym (take-append-drop at (take end old)) ∙ ap (λ xs. xs ++ from_to at end old) (take-take at end old (omega (arith, order))) in
+      found-more names InRange seen texts P (take at old) (from_to at end old) (take end old) old mid new added whole (found, is, covers) new_is (subst (λ xs. Covers names InRange seen texts (FromSome P xs) added) (slice-old at end old found mid is within) more)

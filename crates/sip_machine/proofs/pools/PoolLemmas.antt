@@ -1,7 +1,8 @@
 -- The states of a pool: a list of phases and a list of what is owed, read as one list.
 use Prim.Native.Nat.{suc, zero}
 use Rattle.std.specs.List.{copy_within}
-use Rattle.sip_machine.proofs.Words.{◌≡◌, ◌==◌, ◌↔◌, ◌<◌, ◌≤◌, ℕ, IsTrue, List, [], ◌∷◌, ◌++◌, drop, get_or, length, set, take, HoldsAt, refl, sym, ◌∙◌, ap, ap₂, subst, arith, nat_tests, get_or-append_seam, take-append_seam, length-drop, set-get_or, set_at, set_split, drop_all, length-take, length_push, take-take, take_all, take_at, take_rest, length-take-le, ◌-◌, Debt, CodeOwing, at_rest, state_in, Rest, Stays, Pays, owed_in, rested_debts, rests_at, beside}
+use Rattle.std.proofs.lemmas.List.{nil_from_length}
+use Rattle.sip_machine.proofs.Words.{◌≡◌, ◌<◌, ◌≤◌, ℕ, List, [], ◌∷◌, ◌++◌, drop, get_or, length, set, take, HoldsAt, refl, sym, ◌∙◌, ap, ap₂, subst, arith, nat_tests, get_or-append_seam, take-append_seam, length-drop, set-get_or, set_at, set_split, drop_all, length-take, length_push, take-take, take_all, take_at, take_rest, length-take-le, ◌-◌, Debt, CodeOwing, at_rest, state_in, Rest, Stays, Pays, owed_in, rested_debts, rests_at, beside}
 
 -- What follows is of phases beside the rows of what is owed, as the states of a pool.
 module _ {S : Type 0} where
@@ -97,11 +98,6 @@ module _ {S : Type 0} where
   pub same-state : (x y : CodeOwing S) → x.phase ≡ y.phase → x.owes ≡ y.owes → x ≡ y
   same-state x y phase owes = let e : record { phase = x.phase; owes = x.owes } ≡ y = rw (phase, owes) in e
 
--- a list has no elements exactly if their number is 0
-pub empty-length : {X : Type 0} (xs : List X) (n : ℕ) → n ≡ length xs → IsTrue (n == 0) ↔ (xs ≡ [])
-empty-length [] n is = (λ _. refl, λ _. grind (arith, nat_tests))
-empty-length (x ∷ xs) n is = (λ none. let low : n ≡ 0 = grind (arith, nat_tests) in absurd (omega (arith, low, is)), λ none. cc)
-
 -- What follows is of lists that grow at their end.
 module _ {X : Type 0} where
   -- the element at k of a list that has one
@@ -122,10 +118,6 @@ module _ {X : Type 0} where
   pub alone-set : (xs : List X) (x : X) → length xs ≡ 1 → set xs 0 x ≡ x ∷ []
   alone-set xs x one = set_split xs 0 x (omega (arith, one)) ∙ ap (λ ys. x ∷ ys) (drop_all 1 xs (omega (arith, one)))
 
-  -- where x was put after the old elements, and the last one is then changed by f, the list is the old elements and f x
-  set-last : (old more new : List X) (x d : X) (last : ℕ) (f : X → X) → more ≡ old ++ x ∷ [] → last ≡ length old → new ≡ set more last (f (get_or more last d)) → new ≡ old ++ f x ∷ []
-  set-last old more new x d last f is at changed = grind (arith, get_or-append_seam, set_at)
-
   -- where elements were put after the old ones, the first as many as there were are the old ones
   pub take-old : (old added new : List X) (n : ℕ) → new ≡ old ++ added → n ≡ length old → take n new ≡ old
   take-old old added new n is at = ap₂ take at is ∙ take-append_seam old added
@@ -134,11 +126,11 @@ module _ {X : Type 0} where
   pub copy-changed : (old more new : List X) (k last : ℕ) (f : X → X) → k < length old → HoldsAt (λ x. more ≡ old ++ x ∷ []) old k → last ≡ length old →
       HoldsAt (λ x. new ≡ set more last (f x)) more last → HoldsAt (λ x. new ≡ old ++ f x ∷ []) old k × (take (length old) new ≡ old)
   copy-changed old more new k last f low copied at changed =
-      let is : HoldsAt (λ x. new ≡ old ++ f x ∷ []) old k = λ d. set-last old more new (get_or old k d) d last f (copied d) at (changed d) in
+      let is : HoldsAt (λ x. new ≡ old ++ f x ∷ []) old k = λ d. let same = copied d in let then = changed d in grind (arith, get_or-append_seam, set_at) in
       (is, take-old old _ new (length old) (is (some-at old k low)) refl)
 
 -- how phases and rows of a pool stand beside each other: the lemmas that `using(..)` gives the prover in `src/pool.rt`
-pub ruleset of_pool = (beside-length, phase-at, beside-append, beside-set, beside-take, empty-length, in-phases, in-rows, rested-set, state-at, same-state, take-append_seam, take_all, length_push, not-shorter, front-again)
+pub ruleset of_pool = (beside-length, phase-at, beside-append, beside-set, beside-take, nil_from_length, in-phases, in-rows, rested-set, state-at, same-state, take-append_seam, take_all, length_push, not-shorter, front-again)
 
 -- where all items are moved to the front by `count` places, and the last ones are left out, the first `count` items are dropped
 pub dropped-first : {X : Type 0} (count len : ℕ) (xs : List X) → len ≡ length xs → count ≤ length xs → take (len - count) (copy_within xs count len 0) ≡ drop count xs

@@ -1,4 +1,4 @@
-use Rattle.sip_ledger.proofs.Lemmas.{arith, least-first, least-first_due, least-found, least-last, least-passed, left-kept, owed-left, sym, ◌∙◌}
+use Rattle.sip_ledger.proofs.Lemmas.{arith, least-first, least-first_due, least-found, least-last, least-passed, sym, ◌∙◌}
 use Rattle.sip_ledger.proofs.accounts.account.least_must.Goals.{then-owes+else-gains, else-owes}
 use Rattle.sip_ledger.proofs.accounts.account.least_must.Goals as goal
 
@@ -16,10 +16,6 @@ pub returns-then-gains : goal.returns-then-gains
 returns-then-gains c =
     let found = c.in-Some.ensures in
     least-first_due c.loop-place.invariant found.within.0 found.before c.requires.gained c.requires.account found.is (sym c.owes.ensures ∙ c.if-owes.true) (rw c.entry.ensures at c.earlier.ensures) c.if-gains.true
-
--- what the account owes is kept
-pub entry-requires-clause-kept : goal.entry-requires-clause-kept
-entry-requires-clause-kept c = grind (arith, left-kept, owed-left)
 
 -- the least deadline so far is that of the debts up to here that must be sent
 pub loop-place-preserved : goal.loop-place-preserved

@@ -1,10 +1,6 @@
-use Rattle.sip_ledger.proofs.Lemmas.{arith, at-apart, at-more, end-other, end-same, false≢true, refl, rules, sym, told-none, [], ◌∙◌, ◌≡◌, ◌≢◌}
+use Rattle.sip_ledger.proofs.Lemmas.{arith, at-apart, at-more, end-other, end-same, false≢true, rules, sym, ◌∙◌, ◌≡◌, ◌≢◌}
 use Rattle.sip_ledger.proofs.accounts.account.same.Goals.{then-loop-at-test+else-beside-other, else-loop-at-test}
 use Rattle.sip_ledger.proofs.accounts.account.same.Goals as goal
-
--- both owe the same before their first places
-pub loop-at-init : goal.loop-at-init
-loop-at-init c = record { debts = []; told = told-none c.requires.one refl; told_beside = told-none c.requires.other refl }
 
 -- both owe one debt more that is the same
 pub loop-at-preserved : goal.loop-at-preserved

@@ -1,11 +1,6 @@
 use Rattle.sip_ledger.proofs.Lemmas.{account_debts, arith, length-map, gained-grown, gained-more, gained-over}
 use Rattle.sip_ledger.proofs.accounts.each.gain_some.Goals as goal
 
--- where memory was refused for a gain, the rows are accounts still
-pub returns-in_err-place-clause-accounts : goal.returns-in_err-place-clause-accounts
-returns-in_err-place-clause-accounts c =
-    (gained-over c.place_for.new.gains c.place_for.ensures.kept c.place_for.ensures.gained c.loop-row.invariant.gained).accounts
-
 -- where memory is refused, the accounts are as right as before
 pub returns-in_err-grown-clause-accounts : goal.returns-in_err-grown-clause-accounts
 returns-in_err-grown-clause-accounts c =

@@ -1,9 +1,5 @@
-use Rattle.sip_ledger.proofs.Lemmas.{Account, All-nil, arith, IsAccount, length, moved-more, refl, [], ◌<◌}
+use Rattle.sip_ledger.proofs.Lemmas.{Account, arith, length, moved-more, ◌<◌}
 use Rattle.sip_ledger.proofs.accounts.moved.move_all.Goals as goal
-
--- no account is moved yet
-pub loop-at-init : goal.loop-at-init
-loop-at-init c = rw (c.new-kept.ensures.items, c.new-moved.ensures.items) (record { each = All-nil (IsAccount c.args.gains.now []); debts = refl })
 
 -- one account more is moved
 pub loop-at-preserved : goal.loop-at-preserved

@@ -1,5 +1,5 @@
 use Rattle.std.proofs.lemmas.List.Elements.{All-more}
-use Rattle.sip_machine.proofs.Words.{◌≡◌, ◌==◌, ◌<◌, ◌+◌, ◌∙◌, ℕ, List, Texts, ap, arith, cond, inl, inr, sym, subst, true, true≢false, cases_eq, nat_tests, ne_eqb, All, All-names, All-nil, All-weaker, IsToOf, Keeps, PaysSome, get_or, length, numbers_of, owed_in, take, take_all, text_of}
+use Rattle.sip_machine.proofs.Words.{◌≡◌, ◌==◌, ◌<◌, ◌+◌, ◌∙◌, ℕ, List, Texts, ap, arith, cond, inl, inr, sym, subst, true, true≢false, cases_eq, nat_tests, ne_eqb, All, All-names, All-nil, All-weaker, IfOk-weaker, IsToOf, Keeps, PaysSome, get_or, length, numbers_of, owed_in, take, take_all, text_of}
 use Rattle.sip_numbers.specs.declared.numbers.Word.{Word}
 use Rattle.sip_machine.proofs.acks.HolderLemmas.{AreWith, found-is, found-with}
 use Rattle.sip_machine.proofs.debts.NamesLemmas.{all-named, all-owed}
@@ -30,7 +30,7 @@ one-with texts to t old new names at are low its changed =
 pub has_to-requires : goal.has_to-requires
 has_to-requires c =
     subst (All (Keeps c.args.book.now)) (sym c.deref-message-items.ensures.value)
-    (all-named (Keeps c.args.book.now) _ _ _ c.new-messages.ensures.items c.in_ok-names_once.ensures.ok c.requires.owed)
+    (all-named (Keeps c.args.book.now) _ _ _ c.new-messages.ensures.items (rw c.in-Some.ensures.some at c.in_ok-names_once.ensures.ok) c.requires.owed)
     c.loop-message.message-index 0 c.loop-message-test.true
 
 -- no message was looked at yet
@@ -55,16 +55,19 @@ loop-message-preserved c =
     ]
 
 -- what is found among those with the To is found with the To
-pub returns : goal.returns
-returns c =
+pub returns-clause-finds : goal.returns-clause-finds
+returns-clause-finds c =
     let texts = c.args.book.now in
     let to = c.args.to.now in
-    let owes = owed_in c.args.accounts.now c.args.row in
+    let t = c.args.moment in
+    let owes = owed_in c.args.dues.now c.args.row in
     let set = c.loop-message.those in
     let InSet : ℕ → Type 0 = λ n. IsToOf (text_of texts n) to → numbers_of set n ≡ true in
     let items = c.deref-message-items in
     let each = rw (take_all c.loop-message.message-index items.result.now c.loop-message-test.false, items.ensures.value) at c.loop-message.invariant.each in
-    let all = All-names InSet owes (all-owed InSet owes _ _ c.new-messages.ensures.items c.in_ok-names_once.ensures.ok each) in
-    found-with texts to c.args.moment set owes c.in-Some.found (λ k d low has. (all k d low has.0, has.1)) c.in-Some.ensures.first
-    (found-is (PaysSome (numbers_of set) c.args.moment) (λ m. IsToOf (text_of texts m) to) c.args.moment owes c.in-Some.found
-    (λ k d low pays. c.loop-message.invariant.only (get_or owes k d).message pays.0) c.in-Some.ensures.first)
+    let named = rw c.in-Some.ensures.some at c.in_ok-names_once.ensures.ok in
+    let all = All-names InSet owes (all-owed InSet owes _ _ c.new-messages.ensures.items named each) in
+    IfOk-weaker c.first_payable.result _ _ (λ found first.
+    found-with texts to t set owes found (λ k d low has. (all k d low has.0, has.1)) first
+    (found-is (PaysSome (numbers_of set) t) (λ m. IsToOf (text_of texts m) to) t owes found
+    (λ k d low pays. c.loop-message.invariant.only (get_or owes k d).message pays.0) first)) c.first_payable.ensures.first

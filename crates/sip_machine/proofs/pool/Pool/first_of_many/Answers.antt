@@ -1,5 +1,5 @@
 -- At each turn of the loop (`c.loop-at.invariant`) part 0 says that the rows are the first ones, 1 that the slots have as many prints, 2 that they are theirs.
-use Rattle.sip_machine.proofs.Words.{◌≡◌, ◌<◌, ◌+◌, ◌-◌, ◌∷◌, [], get_or, length, ◌∙◌, ap, sym, subst, arith, inl, inr, cases_lt, get_or_default, get_or_append_left, get_or_push, length_push, AreFirstOnes}
+use Rattle.sip_machine.proofs.Words.{◌≡◌, ◌<◌, ◌+◌, ◌-◌, get_or, length, ◌∙◌, ap, sym, subst, arith, cases_lt, get_or_default, get_or_append_left, get_or_push, length_push, AreFirstOnes}
 use Rattle.sip_machine.proofs.pools.FirstLemmas.{first-told, first-again}
 use Rattle.sip_machine.proofs.pool.Pool.first_of_many.Goals as goal
 use Rattle.sip_machine.proofs.pool.Pool.first_of_many.Goals.{then-not-is_repeat+in_ok-push+in_ok-push-2, else-not-is_repeat}
@@ -30,15 +30,7 @@ loop-at-preserved g c =
             first-told xs from at rows c.is_repeat.result c.loop-at.auto.at first repeats w.if-not-is_repeat.true,
             more_kept ∙ ap (λ n. n + 1) long ∙ sym more_rows,
             -- each row has its print, the new one too
-            (λ k low. elim (cases_lt k (length rows)) [
-              -- an old row has the print that it had, and the new one that of the state at hand
-              | inl before ↦
-                  get_or_append_left kept (print ∷ []) 0 k (omega (arith, before, long)) ∙ told k before
-                  ∙ ap (λ r. get_or prints (r - from) 0) (sym (get_or_append_left rows (at ∷ []) 0 k before))
-              | inr behind ↦
-                  get_or_push kept print 0 k (omega (arith, behind, low, long, more_rows)) ∙ sym here
-                  ∙ ap (λ r. get_or prints (r - from) 0) (sym (get_or_push rows at 0 k (omega (arith, behind, low, more_rows))))
-            ]),
+            (λ k low. grind (arith, cases_lt k (length rows), get_or_append_left, get_or_push, told k)),
           )
       -- a state before it is equal, so the rows stay
       | else-not-is_repeat w ↦ rw (w.rows-is, w.slots-is) (first-again xs from at rows first (λ x. (repeats x).0 w.if-not-is_repeat.false), long, told)

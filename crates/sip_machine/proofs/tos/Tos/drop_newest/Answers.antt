@@ -1,34 +1,39 @@
 -- Of the invariant of Tos (`c.self.invariant`) part 0 says that the numbers of the messages rise, and 1 that each stands under its hash, if hashes are kept.
-use Rattle.sip_machine.proofs.Words.{◌≡◌, ◌-◌, Contains, arith, take, vec_len, All-contains_itself, All-take}
-use Rattle.sip_machine.proofs.acks.ToLemmas.{AllPairs-take, below, front_below, under-taken}
+use Rattle.sip_machine.proofs.Words.{◌≡◌, ◌-◌, Contains, Some, false, arith, rules, vec_len, All-contains_itself, All-take}
+use Rattle.sip_machine.proofs.acks.ToLemmas.{AllPairs-take, below, front_below, set-changed, under-taken}
 use Rattle.sip_machine.proofs.tos.Tos.drop_newest.Goals as goal
-use Rattle.sip_machine.proofs.tos.Tos.drop_newest.Goals.{in-Some-hashes, in_default-hashes}
+use Rattle.sip_machine.proofs.tos.Tos.drop_newest.Goals.{in_default-via-in-None-1, in_default-via-in-Some+in-None-1, in_default-via-in-Some+in-Some-last+else-last-number, in_default-via-in-Some+in-Some-last+then-last-number+in-None-1}
 
 -- without the newest To the others are in order, and each stands under its hash
-pub invariant_of-self : goal.invariant_of-self
-invariant_of-self c =
+pub invariant_of-self-2 : goal.invariant_of-self-2
+invariant_of-self-2 c =
     let tos = c.self.inside.list.items in
     let left = vec_len c.self.inside.list - 1 in
-    let last = c.in-Some.last.now in
+    let last = c.in-Some-last.last.now in
+    let set = c.take.new.self in
     -- `at` says that `last` stands at the end of the list
-    let at = rw (c.in-Some.is, c.deref.ensures.value) at c.last.ensures.value in
+    let at = rw (c.in-Some-last.is, c.deref.ensures.value) at c.last.ensures.value in
     -- the last To is the one with this number, and the others have lesser numbers
     let same : last.number ≡ c.args.number = omega arith in
     let lower = rw (← c.self.inside.list.ok.0, same) at (front_below tos last c.self.invariant.0 at) in
-    let rise = AllPairs-take below left tos c.self.invariant.0 in
-    elim c.match-self.branch [
-      | in-Some-hashes w ↦
-          rw (c.pop.ensures.rest, w.self-inside-is)
-          (rise, under-taken w.hash.result c.args.number _ w.take.new.sets left tos w.take.ensures lower (rw w.in-Some-hashes.is at c.self.invariant.1))
-      | in_default-hashes w ↦ rw (c.pop.ensures.rest, w.self-inside-is, w.in_default-hashes.is) (rise, tt)
-    ]
+    let changed = set-changed c.in-Some.sets c.hash.result c.args.number false (Some c.in-Some-get_mut.set.now) c.in-Some-get_mut.ensures.value (c.get_mut.follows.lender set) set
+    ((c.get_mut.follows.holds set).3 (search rules)).0 c.take.ensures in
+    rw c.pop.ensures.rest
+    (AllPairs-take below left tos c.self.invariant.0, under-taken c.hash.result c.args.number _ _ left tos changed lower (rw c.in-Some.is at c.self.invariant.1))
 
 -- the Tos that are left were there before
-pub returns-after-self : goal.returns-after-self
-returns-after-self c =
+pub returns-in-Some-get_mut : goal.returns-in-Some-get_mut
+returns-in-Some-get_mut c =
     let tos = c.self.inside.list.items in
-    let some = All-take (Contains tos) (vec_len c.self.inside.list - 1) tos (All-contains_itself tos) in
-    elim c.match-self.branch [
-      | in-Some-hashes w ↦ rw (← c.self.view_is, c.pop.ensures.rest, w.self-inside-is) some
-      | in_default-hashes w ↦ rw (← c.self.view_is, c.pop.ensures.rest, w.self-inside-is) some
+    rw (← c.self.view_is, c.pop.ensures.rest) (All-take (Contains tos) (vec_len c.self.inside.list - 1) tos (All-contains_itself tos))
+
+-- where no To is taken out, all are left
+pub returns-in_default : goal.returns-in_default
+returns-in_default c =
+    let all = All-contains_itself c.self.inside.list.items in
+    elim c.in_default.branch [
+      | in_default-via-in-None-1 w ↦ rw (← c.self.view_is, w.self-is) all
+      | in_default-via-in-Some+in-None-1 w ↦ rw (← c.self.view_is, w.self-is) all
+      | in_default-via-in-Some+in-Some-last+else-last-number w ↦ rw (← c.self.view_is, w.self-is) all
+      | in_default-via-in-Some+in-Some-last+then-last-number+in-None-1 w ↦ rw (← c.self.view_is, w.self-is) all
     ]

@@ -1,6 +1,0 @@
-use Rattle.sip_ledger.proofs.Lemmas.{false, held-updated}
-use Rattle.sip_ledger.proofs.accounts.places.remove.Goals as goal
-
--- this pair of a message and a place is gone, and no other one
-pub returns-clause-taken : goal.returns-clause-taken
-returns-clause-taken c = held-updated c.args.pairs.now c.remove.new.self c.args.message c.args.place false c.remove.ensures.updates

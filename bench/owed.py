@@ -21,6 +21,8 @@ IN_LINE = 2.3
 # The start lines of the requests that the logs have.
 INVITE = "INVITE sip:b SIP/2.0"
 OTHER = "OPTIONS sip:b SIP/2.0"
+# Tos with this tag and eight digits after it have one hash, since the digits are multiplied by zero. Anyone can compute such a text.
+ONE_HASH = "am8jb.pi2SWT"
 # In how many states a set stands, and how often each of two responses is owed that lead it there. Of n equal debts 0 to n may be paid, so that n + 1
 # states stand, and with m of the other response (n + 1) * (m + 1).
 SETS = {1: (0, 0), 2: (1, 0), 100: (99, 0), 1024: (31, 31)}
@@ -146,13 +148,14 @@ def acks_of_one_to(count, _):
     yield from count * [("S", 0, text("ACK sip:b SIP/2.0", "ACK", 1, "t"))]
 
 
-def in_turn(count, tos):
-    """Refusals that differ, whose Tos come in turn, so many of them, and the ACKs of the last To first, then those of the one before it, and so on."""
+def in_turn(count, tos, tag="t"):
+    """Refusals that differ, whose Tos come in turn, so many of them, and the ACKs of the last To first, then those of the one before it, and so on. The tags
+    begin with this text."""
     yield "S", 0, text(INVITE)
     for number in range(count):
-        yield "R", 0, reply(f"486 {number}", f"t{number % tos}")
+        yield "R", 0, reply(f"486 {number}", f"{tag}{number % tos}")
     for to in reversed(range(tos)):
-        yield from len(range(to, count, tos)) * [("S", 0, text("ACK sip:b SIP/2.0", "ACK", 1, f"t{to}"))]
+        yield from len(range(to, count, tos)) * [("S", 0, text("ACK sip:b SIP/2.0", "ACK", 1, f"{tag}{to}"))]
 
 
 def acks_in_turn(count, _):
@@ -262,6 +265,16 @@ def acks_of_long_tos(count, _):
     yield from refused(count, lambda it: 300 * "t" + str(it), reversed)
 
 
+def acks_of_one_hash(count, _):
+    """Refusals with a To each, where all Tos have one hash; their ACKs, newest first."""
+    yield from refused(count, lambda it: f"{ONE_HASH}{it:08}", reversed)
+
+
+def acks_of_two_of_one_hash(count, _):
+    """Refusals that differ, whose two Tos come in turn and have one hash, and the ACKs of one To before those of the other."""
+    yield from in_turn(count, 2, f"{ONE_HASH}{0:07}")
+
+
 def equal_debts(count, states):
     """So many equal debts, and then the states, with nothing after them: it takes memory, and little time."""
     yield from [ASK, ("S", 0, reply(180, "e")), *count * [ASK], *widened(states)[1:]]
@@ -357,6 +370,8 @@ LOGS = [
     (acks_of_two_in_another_order, 2000, (1,)),
     (acks_of_many_in_another_order, 2000, (1,)),
     (acks_of_long_tos, 4000, (1,)),
+    (acks_of_one_hash, 4000, (1,)),
+    (acks_of_two_of_one_hash, 4000, (1,)),
     # Debts that are equal, paid by all states at once, or past.
     (equal_debts, 25000, (1, 1024)),
     (debts_paid_by_all, 500, (2, 100, 1024)),

@@ -79,19 +79,19 @@ fn lead(
     all_lead(rt, &client, book, rows)
 }
 
-/// The INVITE, nine 486s with a To each, and the ACK for the last.
+/// The INVITE, nine 486s with a To each, and the ACK for the last. The Tos have one hash.
 const NINE: [Numbered; 11] = [
     (1, Start::Request("INVITE"), None),
-    (2, Start::Response(486), Some(2)),
-    (3, Start::Response(486), Some(3)),
-    (4, Start::Response(486), Some(4)),
-    (5, Start::Response(486), Some(5)),
-    (6, Start::Response(486), Some(6)),
-    (7, Start::Response(486), Some(7)),
-    (8, Start::Response(486), Some(8)),
-    (9, Start::Response(486), Some(9)),
-    (10, Start::Response(486), Some(10)),
-    (11, Start::Request("ACK"), Some(10)),
+    (2, Start::Response(486), Some(202)),
+    (3, Start::Response(486), Some(203)),
+    (4, Start::Response(486), Some(204)),
+    (5, Start::Response(486), Some(205)),
+    (6, Start::Response(486), Some(206)),
+    (7, Start::Response(486), Some(207)),
+    (8, Start::Response(486), Some(208)),
+    (9, Start::Response(486), Some(209)),
+    (10, Start::Response(486), Some(210)),
+    (11, Start::Request("ACK"), Some(210)),
 ];
 
 /// Each of the nine 486s is owed an ACK by 150, which is the tolerance later. The ACK pays the last of the nine debts, and eight are left.
@@ -210,7 +210,7 @@ fn refusal(tag: u64) -> u64 {
 }
 
 /// The INVITE, many 486s with a To each, another request between the first two of them, and an ACK for each: that for the tag N has the number
-/// 1000 + N.
+/// 1000 + N. The Tos of the second half have one hash.
 fn many(alloc: Global) -> Result<Vec<Numbered>, AllocError> {
     let mut messages = Vec::new(alloc);
     push_many(&mut messages)?;
@@ -267,7 +267,7 @@ fn are_first_half(runs: &[Run]) -> bool {
         })
 }
 
-/// An OPTIONS is kept between the first two 486s. Each ACK pays the debt of its own 486.
+/// An OPTIONS is kept between the first two 486s. Each ACK pays the debt of its own 486, though the Tos of all that ACKs are sent for have one hash.
 #[test]
 fn acks_find_their_debts_among_many(rt: HostRuntime) -> Result<(), Fail> {
     let states = states_of_many(rt.alloc(), &entries(rt.alloc())?)?;

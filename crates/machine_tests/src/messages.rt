@@ -15,8 +15,17 @@ pub(crate) enum Start {
     Response(u16),
 }
 
-/// A message: its number, how it begins, and its tag in To.
+/// A message: its number, how it begins, and its tag in To. The Tos with tags from `ONE_HASH` on have one hash.
 pub(crate) type Numbered = (u64, Start, Option<u8>);
+
+/// The tags from this one on stand after `BEFORE_TAG`.
+const ONE_HASH: u8 = 128;
+
+/// The Tos in which this and eight digits are the tag have one hash, by which the digits are multiplied by zero. Anyone can compute such a text.
+const BEFORE_TAG: &str = "aaclnp3cuG3DmG";
+
+/// The eight digits of a tag are this number and the tag.
+const EIGHT_DIGITS: u32 = 10_000_000;
 
 /// The first line of a message that begins in this way.
 fn line_of(alloc: Global, start: Start) -> Result<String, AllocError> {
@@ -29,7 +38,8 @@ fn line_of(alloc: Global, start: Start) -> Result<String, AllocError> {
 /// The tag parameter of To, which is empty where there is no tag.
 fn tag_of(alloc: Global, tag: Option<u8>) -> Result<String, AllocError> {
     match tag {
-        Some(tag) => format!(in alloc; ";tag={tag}"),
+        Some(tag) if tag < ONE_HASH => format!(in alloc; ";tag={tag}"),
+        Some(tag) => format!(in alloc; ";tag={BEFORE_TAG}{}", EIGHT_DIGITS + tag as u32),
         None => Ok(String::new(alloc)),
     }
 }

@@ -42,12 +42,11 @@ pub use Rattle.sip_machine.specs.declared.tos.To.{To}
 pub use Rattle.sip_machine.specs.inner.Both.{AnswersBoth}
 pub use Rattle.sip_machine.specs.inner.Dues.{AreBetween, blank_rows}
 pub use Rattle.sip_machine.specs.inner.Effects.{OrStays, led_by, repaid_at, rested_debts, rests_at}
-pub use Rattle.sip_machine.specs.inner.Order.{full_hash}
 pub use Rattle.sip_machine.specs.inner.Paying.{FindsFirst, HasTo, PaysFor}
 pub use Rattle.sip_machine.specs.inner.Pools.{AreFirstOnes, AreMixedWith, IsSought, beside, one_past, picked}
 pub use Rattle.sip_machine.specs.inner.Single.{AnswersOne, IsTheOne}
 pub use Rattle.sip_machine.specs.inner.Slots.{AreSlots, IsNewest, IsReached, Slotted, slot_of, slotted}
-pub use Rattle.sip_machine.specs.inner.Tos.{AreTos, AreUnder, HasAll, IsChanged, IsTo, IsToOf, count_between}
+pub use Rattle.sip_machine.specs.inner.Tos.{AreTos, AreUnder, HasThose, IsChanged, IsTo, IsToOf, count_between}
 pub use Rattle.sip_machine.specs.inner.Turns.{TurnInRange, changed_debts, state_in, turn_names, turn_seen}
 pub use Rattle.sip_message.proofs.lemmas.says.Reading.{same_reading, says-no_fault, says-reads}
 pub use Rattle.sip_message.specs.Reading.{Reading}

@@ -6,7 +6,7 @@ ghost use Rattle.sip_machine.specs.Texts.{Texts, IsBook, Keeps, text_of};
 ghost use Rattle.sip_machine.specs.Retained.{only};
 ghost use Rattle.sip_message.specs.Reads.{Reads};
 ghost use Rattle.sip_machine.specs.inner.ReadAs.{IsReadAs};
-ghost use Rattle.sip_machine.specs.inner.Tos.{AreTos, HasAll, IsTo, IsToOf, count_between};
+ghost use Rattle.sip_machine.specs.inner.Tos.{AreTos, HasThose, IsTo, IsToOf, count_between};
 ghost use Rattle.sip_machine.specs.inner.Order.{texts_of, placed, bytes_at, key_of, compare, begins_by, places_of, index_of, most_places, IsLed, IsInRuns, StandInRuns, IsInside, IsGap};
 
 mod retain;
@@ -165,7 +165,7 @@ impl Book {
         ensures { IfOk result (λ has. IsTrue has ↔ IsToOf (text_of self.now number) to.now) }
     {
         match self.to_of(number, near) {
-            Some(its) => Ok(its.is(to)),
+            Some(its) => Ok(its == to),
             None => self.is_read_with(alloc, number, to),
         }
     }
@@ -189,10 +189,10 @@ impl Book {
         self.tos.get(number, near)
     }
 
-    /// Numbers of messages, among which are those of all messages from `low` up to `high` that have this To, from which the blanks were taken.
-    /// Where one of these has not its To beside it, or hashes are not kept, the answer is None.
+    /// Numbers of messages. Of the messages from `low` up to `high`, those with this To, from which the blanks were taken, are among these, and no others.
+    /// Where one of these has not its To beside it, or no sets are kept, the answer is None.
     pub(crate) fn under(&self, low: u64, high: u64, to: &Hashed) -> Option<&Numbers>
-        ensures { IfSome result (λ set. HasAll self.now low high to.now set.now) }
+        ensures { IfSome result (λ set. HasThose self.now low high to.now set.now) }
     {
         if kept_between(&self.kept, low, high) != self.tos.between(low, high) {
             return None;
@@ -282,8 +282,8 @@ impl Book {
         self.kept.len()
     }
 
-    /// Keeps the messages with these numbers alone, which rise. Their numbers and bytes stay. It takes memory only for the hashes of Tos that
-    /// stand beside many messages. Where there is none, ACKs are found more slowly.
+    /// Keeps the messages with these numbers alone, which rise. Their numbers and bytes stay. It takes memory only for the sets of messages with
+    /// one To, where there are many. Where there is none, ACKs are found more slowly.
     pub fn retain_only(&mut self, numbers: &[u64])
         requires rising { AllPairs (λ a b. a < b) numbers.now }
         requires kept { All (Keeps self.old) numbers.now }

@@ -74,12 +74,11 @@ impl Dues {
         rows!(&self.rows, accounts => Some(&**accounts), _ => None)
     }
 
-    /// The message of the row's first debt that a send of one of these messages pays at the moment, if there is one. The key is a number for what these
-    /// messages have in common.
+    /// The message of the row's first debt that a send of one of these messages pays at the moment, if there is one. These messages are all that
+    /// have something in common, and so the first of them is the key under which they are asked for again.
     pub(crate) fn first_payable(
         &mut self,
         row: usize,
-        key: u64,
         messages: &Numbers,
         moment: u64,
     ) -> Result<Option<u64>, AllocError>
@@ -87,6 +86,7 @@ impl Dues {
         ensures same { self.new ≡ self.old }
         ensures first { IfOk result (IsFirstPaid (PaysSome (numbers_of messages.now) moment) moment (owed_in self.old row)) }
     {
+        let key = messages.next_in_both(messages, 0).unwrap_or(0);
         rows!(&mut self.rows, accounts => accounts.first_payable(row, key, messages, moment), _ => Ok(None))
     }
 

@@ -1,8 +1,13 @@
 //! Texts that are told apart by their hashes first.
-ghost use Rattle.std.specs.Prelude.{◌≡◌, IfOk, bytes_eq};
-ghost use Rattle.sip_machine.specs.inner.Order.{full_hash, hash_of};
+ghost use Rattle.std.specs.Prelude.{◌≡◌, IfOk, refl};
+ghost use Rattle.std.specs.Cmp.{partial_order_from_own_ties};
+ghost use Rattle.std.specs.Cmp.Rules.{comparing};
+ghost use Rattle.std.specs.Ordering.{as_partial_cmp, eq_by_cmp};
+ghost use Rattle.std.proofs.Common.{rules};
+ghost use Rattle.sip_machine.specs.inner.Order.{full_hash, hash_of, text_cmp};
 
 use std::alloc::{AllocError, Global};
+use std::cmp::Ordering;
 use std::hash::{FoldHasher, Hasher};
 use std::marker::Model;
 
@@ -54,22 +59,48 @@ impl Hashed {
     {
         &self.text
     }
+}
 
-    /// The hash of the text: equal texts have equal hashes.
-    pub(crate) fn hash(&self) -> u64
-        ensures { result ≡ full_hash self.now }
-    {
-        self.hash
-    }
+impl PartialEq for Hashed {
+    ghost eq = { eq_by_cmp text_cmp };
+
+    ghost laws = { Prim.search (comparing, rules) };
 
     /// Whether the texts are the same. Where their hashes differ, they are not, and no byte is compared.
-    pub(crate) fn is(&self, other: &Hashed) -> bool
-        ensures { result ≡ bytes_eq self.now other.now }
-    {
-        if self.hash != other.hash {
-            return false;
+    fn eq(&self, other: &Hashed) -> bool {
+        self.hash == other.hash && self.text.as_slice() == other.text.as_slice()
+    }
+}
+
+impl Eq for Hashed {
+    ghost laws = { Prim.search (comparing, rules) };
+}
+
+impl PartialOrd for Hashed {
+    ghost partial_cmp = { as_partial_cmp text_cmp };
+
+    ghost laws = { partial_order_from_own_ties (Prim.search (comparing, rules)) (λ x y. refl) };
+
+    fn partial_cmp(&self, other: &Hashed) -> Option<Ordering> {
+        Some(self.cmp(other))
+    }
+}
+
+impl Ord for Hashed {
+    ghost cmp = { text_cmp };
+
+    ghost total = { Prim.search (comparing, rules) };
+
+    ghost matches_partial_cmp = { Prim.search (comparing, rules) };
+
+    ghost matches_eq = { λ x y. refl };
+
+    /// By the hashes, and texts with one hash by their bytes. So no texts, however their hashes fall, make a search among them dear.
+    fn cmp(&self, other: &Hashed) -> Ordering {
+        match self.hash.cmp(&other.hash) {
+            Ordering::Equal => self.text().cmp(other.text()),
+            unequal => unequal,
         }
-        self.text.as_slice() == other.text.as_slice()
     }
 }
 

@@ -1,5 +1,5 @@
 //! The Tos of messages for which an ACK may come. They are found by the numbers of the messages, and by themselves.
-ghost use Rattle.std.specs.Prelude.{◌≡◌, ◌<◌, ◌++◌, ◌∷◌, [], true, IfSome, OnOk, OnErr, IsTrue, All, AllPairs, Contains, length, map};
+ghost use Rattle.std.specs.Prelude.{◌≡◌, ◌<◌, ◌↔◌, ◌++◌, ◌∷◌, [], ℕ, true, IfSome, OnOk, OnErr, IsTrue, All, AllPairs, Contains, length, map};
 ghost use Rattle.std.specs.List.{HoldsAt};
 ghost use Rattle.sip_numbers.specs.Numbers.{numbers_of};
 ghost use Rattle.sip_machine.specs.declared.tos.To.{To};
@@ -22,18 +22,19 @@ pub(crate) struct To {
 #[derive(Debug, Drop)]
 pub(crate) struct Tos {
     list: Vec<To>,
-    /// Where the Tos of all messages are to stand here: the numbers of the messages, under the hashes of their Tos.
-    hashes: Option<BTreeMap<u64, Numbers>>,
-    /// No number, which is what stands under any other hash.
+    /// Where the Tos of all messages are to stand here: the numbers of the messages, under their Tos.
+    sets: Option<BTreeMap<Hashed, Numbers>>,
+    /// No number, which is what stands under any other To.
     none: Numbers,
 }
 
 /// Where a search for a To looks at this many messages, one by one, the Tos of all messages are to stand here: then no message without one lies
-/// between these, and the response of an ACK is found without a look at each message that is owed. Where fewer are left, no hashes are kept.
+/// between these, and the response of an ACK is found without a look at each message that is owed. Where fewer are left, no sets are kept.
 pub(crate) const MANY: usize = 255;
 
 impl Model for Tos {
-    ghost use Rattle.std.specs.Prelude.{◌<◌, IfSome, List, AllPairs};
+    ghost use Rattle.std.specs.Prelude.{◌≡◌, ◌<◌, ℕ, false, IfSome, List, AllPairs};
+    ghost use Rattle.sip_numbers.specs.Numbers.{numbers_of};
     ghost use Rattle.sip_machine.specs.declared.tos.To.{To};
     ghost use Rattle.sip_machine.specs.inner.Tos.{AreUnder};
 
@@ -41,8 +42,8 @@ impl Model for Tos {
 
     ghost view = { λ t. t.list.items };
 
-    // The numbers of the messages rise, and where hashes are kept, each stands under the hash of its To.
-    ghost invariant = { λ t. AllPairs (λ a b. a.number < b.number) t.list.items × IfSome t.hashes (AreUnder t.list.items) };
+    // The numbers of the messages rise, and where sets are kept, each stands under its To, and no other number does.
+    ghost invariant = { λ t. AllPairs (λ a b. a.number < b.number) t.list.items × IfSome t.sets (AreUnder t.list.items) × ((n : ℕ) → numbers_of t.none n ≡ false) };
 }
 
 impl Tos {
@@ -52,21 +53,21 @@ impl Tos {
     {
         Tos {
             list: Vec::new(alloc),
-            hashes: None,
+            sets: None,
             none: Numbers::new(alloc),
         }
     }
 
     /// Whether the Tos of all messages are to stand here.
     pub(crate) fn takes_all(&self) -> bool {
-        self.hashes.is_some()
+        self.sets.is_some()
     }
 
     /// Puts these Tos, which are those of all messages, in the place of those that are here.
     pub(crate) fn replace(&mut self, tos: Tos)
         ensures { self.new ≡ tos }
     {
-        self.hashes = hashes_of(*tos.list.allocator(), &tos.list, true);
+        self.sets = sets_of(*tos.list.allocator(), &tos.list, true);
         self.list = tos.list;
     }
 
@@ -97,8 +98,8 @@ impl Tos {
         ensures err { OnErr result (self.new ≡ self.old) }
     {
         self.list.reserve(1)?;
-        if let Some(sets) = &mut self.hashes {
-            put(*self.list.allocator(), sets, text.hash(), number)?;
+        if let Some(sets) = &mut self.sets {
+            put(*self.list.allocator(), sets, &text, number)?;
         }
         self.list.push_reserved(To { number, text });
         Ok(())
@@ -108,10 +109,10 @@ impl Tos {
     pub(crate) fn drop_newest(&mut self, number: u64)
         ensures { All (Contains self.old) self.new }
     {
-        if let Some(sets) = &mut self.hashes
+        if let Some(sets) = &mut self.sets
             && let Some(last) = self.list.last()
             && last.number == number
-            && let Some(set) = sets.get_mut(&last.text.hash())
+            && let Some(set) = sets.get_mut(&last.text)
         {
             set.take(number);
             let _ = self.list.pop();
@@ -119,21 +120,21 @@ impl Tos {
     }
 
     /// Keeps the Tos of the messages with these numbers, which rise. Where those that are left are few, or where there is no memory for
-    /// their hashes, the Tos of all messages are not to stand here any more.
+    /// these sets, the Tos of all messages are not to stand here any more.
     pub(crate) fn retain(&mut self, numbers: &[u64])
         ensures { All (λ to. Contains self.old to × Contains numbers.now to.number) self.new }
     {
         self.list
             .retain(|to| numbers.binary_search(&to.number).is_ok());
-        self.hashes = hashes_of(*self.list.allocator(), &self.list, self.hashes.is_some());
+        self.sets = sets_of(*self.list.allocator(), &self.list, self.sets.is_some());
     }
 
-    /// Numbers of messages, among which are those of all messages of the list that have this To; None where no hashes are kept.
+    /// The numbers of the messages of the list that have this To; None where no sets are kept.
     pub(crate) fn under(&self, to: &Hashed) -> Option<&Numbers>
-        ensures { IfSome result (λ set. All (λ its. its.text ≡ to.now → numbers_of set.now its.number ≡ true) self.now) }
+        ensures { IfSome result (λ set. (number : ℕ) → (numbers_of set.now number ≡ true) ↔ Contains self.now (record { number = number; text = to.now })) }
     {
-        let sets = self.hashes.as_ref()?;
-        Some(sets.get(&to.hash()).unwrap_or(&self.none))
+        let sets = self.sets.as_ref()?;
+        Some(sets.get(to).unwrap_or(&self.none))
     }
 
     /// How many Tos of the list are of messages with numbers from `low` up to `high`.
@@ -161,28 +162,28 @@ fn place_of(list: &[To], number: u64, here: usize) -> Option<usize>
     }
 }
 
-/// Puts the number under the hash. On an error all sets are as before.
+/// Puts the number under the To. On an error all sets are as before.
 fn put(
     alloc: Global,
-    sets: &mut BTreeMap<u64, Numbers>,
-    hash: u64,
+    sets: &mut BTreeMap<Hashed, Numbers>,
+    to: &Hashed,
     number: u64,
 ) -> Result<(), AllocError>
-    ensures ok { OnOk result (IsChanged hash number true sets.old sets.new) }
+    ensures ok { OnOk result (IsChanged to.now number true sets.old sets.new) }
     ensures err { OnErr result (sets.new.entries ≡ sets.old.entries) }
 {
-    if let Some(set) = sets.get_mut(&hash) {
+    if let Some(set) = sets.get_mut(to) {
         return set.put(number);
     }
     let mut set = Numbers::new(alloc);
     set.put(number)?;
-    let _old = sets.insert(hash, set)?;
+    let _old = sets.insert(to.copy(alloc)?, set)?;
     Ok(())
 }
 
-/// The numbers of the messages with these Tos, under the hashes of the Tos; None where none are to be kept, where they are few, or where there is no
+/// The numbers of the messages with these Tos, under the Tos; None where none are to be kept, where they are few, or where there is no
 /// memory for it.
-fn hashes_of(alloc: Global, list: &[To], are_kept: bool) -> Option<BTreeMap<u64, Numbers>>
+fn sets_of(alloc: Global, list: &[To], are_kept: bool) -> Option<BTreeMap<Hashed, Numbers>>
     ensures { IfSome result (AreUnder list.now) }
 {
     if !are_kept || list.len() < MANY {
@@ -191,7 +192,7 @@ fn hashes_of(alloc: Global, list: &[To], are_kept: bool) -> Option<BTreeMap<u64,
     let mut sets = BTreeMap::new(alloc);
     for at in 0..list.len() {
         let to = &list[at];
-        put(alloc, &mut sets, to.text.hash(), to.number).ok()?;
+        put(alloc, &mut sets, &to.text, to.number).ok()?;
     }
     Some(sets)
 }

@@ -129,6 +129,10 @@ impl Places {
     {
         let mut queue = self.queues.remove(&key).unwrap_or(Queue::new(alloc));
         let first = self.head(messages, &mut queue)?;
+        // Queues that are asked for no more go, where there are more of them than places.
+        if self.queues.len() > self.pairs.len() {
+            self.queues.clear();
+        }
         if first.is_some() {
             let _old = self.queues.insert(key, queue)?;
         }

@@ -2,7 +2,7 @@
 -- `IsFirstPaid P t debts m` says that m is the message of the first debt of which P holds, and that a send of it at t pays that debt; or that there is no m,
 -- and P holds of none.
 use Rattle.std.proofs.lemmas.Option.{slice_get_within}
-use Rattle.sip_machine.proofs.Words.{◌≡◌, ◌<◌, ◌∷◌, ◌↔◌, ℕ, true, ap, arith, nat_tests, numbers_of, sym, IfSome, Option, None, Some, List, [], All, get_or, length, subst, All-get_or, All-head, All-nil, Debt, IsFirstPaid, PaysSome, paid_by, owed_in, owes_names, Texts, Keeps, text_of, HasAll, HasTo, All-back, All-front, IsWithoutFirst-alike, All-names, FindsFirst, AreBetween, IsToOf, slice_get, get_or_from_slice_get}
+use Rattle.sip_machine.proofs.Words.{◌≡◌, ◌<◌, ◌∷◌, ◌↔◌, ℕ, true, ap, arith, nat_tests, numbers_of, sym, IfSome, Option, None, Some, List, [], All, get_or, length, subst, All-get_or, All-head, All-nil, Debt, IsFirstPaid, PaysSome, paid_by, owed_in, owes_names, Texts, Keeps, text_of, HasThose, HasTo, All-back, All-front, IsWithoutFirst-alike, All-names, FindsFirst, AreBetween, IsToOf, slice_get, get_or_from_slice_get}
 use Rattle.sip_numbers.specs.declared.numbers.Word.{Word}
 
 -- where P and Q hold of the same debts, the first debt of which P holds is the first of which Q holds
@@ -10,44 +10,25 @@ pub FindsFirst-same : (P Q : Debt → Type 0) (t : ℕ) (debts : List Debt) (mes
 FindsFirst-same P Q t debts None same none = λ k d low holds. none k d low ((same k d low).1 holds)
 FindsFirst-same P Q t debts (Some message) same first = IsWithoutFirst-alike P Q debts (paid_by message t debts) same first
 
--- what is so of the message of each debt of which P holds is so of the message that is found
-pub found-is : (P : Debt → Type 0) (Q : ℕ → Type 0) (t : ℕ) (debts : List Debt) (found : Option ℕ) →
-    All (λ d. P d → Q d.message) debts → IsFirstPaid P t debts found → IfSome found Q
-found-is P Q t debts None all none = tt
-found-is P Q t debts (Some message) all (one, same) =
-    let W : Debt → Type 0 = λ d. P d → Q d.message in
-    subst Q same (All-head W one.first one.after (All-back W one.before (one.first ∷ one.after) (subst (All W) one.whole all)) one.holds)
-
 -- What follows is of a To and of the moment t of a send.
 module _ (texts : Texts) (to : List ℕ) (t : ℕ) where
   -- the message of the debt has the To, and its deadline is not before t
   abbrev Has : Debt → Type 0
   Has = HasTo texts to t
 
-  -- where the messages of a row with the To are in a set, and what is found by the set has the To, it is what is found by the To
-  pub found-with : (set : List Word) (debts : List Debt) (found : Option ℕ) → All (λ d. Has d → PaysSome (numbers_of set) t d) debts →
-      IsFirstPaid (PaysSome (numbers_of set) t) t debts found → IfSome found (λ m. IsToOf (text_of texts m) to) → FindsFirst Has t debts found
-  found-with set debts None passes none its = λ k d within has. none k d within (passes k d within has)
-  found-with set debts (Some message) passes (one, same) its =
-      let W : Debt → Type 0 = λ d. Has d → PaysSome (numbers_of set) t d in
-      record {
-        before = one.before;
-        first = one.first;
-        after = one.after;
-        whole = one.whole;
-        holds = (subst (λ n. IsToOf (text_of texts n) to) (sym same) its, one.holds.1);
-        -- none before it has the To, since all with the To are in the set
-        none_before = λ k d within has. one.none_before k d within
-            (All-front W one.before (one.first ∷ one.after) (subst (All W) one.whole passes) k d within has);
-        rest = one.rest;
-      }
+  -- where the messages of debts have the To just if they are in a set, what is found by the set is found by the To
+  pub found-among : (set : List Word) (debts : List Debt) (found : Option ℕ) → All (λ d. PaysSome (numbers_of set) t d ↔ Has d) debts →
+      IsFirstPaid (PaysSome (numbers_of set) t) t debts found → FindsFirst Has t debts found
+  found-among set debts None same none = FindsFirst-same (PaysSome (numbers_of set) t) Has t debts None same none
+  found-among set debts (Some message) same (one, _) = FindsFirst-same (PaysSome (numbers_of set) t) Has t debts (Some message) same one
 
-  -- a set that has all kept messages with the To and with numbers between which those lie that rows owe has those that a row owes
+  -- of the kept messages with numbers between which those lie that rows owe, a set has those with the To; then so it is with the messages that a row owes
   pub in-set : (low high : ℕ) (rows : List (List Debt)) (row : ℕ) (set : List Word) → row < length rows → All (AreBetween low high) rows →
-      All (Keeps texts) (owes_names (owed_in rows row)) → HasAll texts low high to set → All (λ d. Has d → PaysSome (numbers_of set) t d) (owed_in rows row)
-  in-set low high rows row set inside spans kept all = λ k d within has.
+      All (Keeps texts) (owes_names (owed_in rows row)) → HasThose texts low high to set → All (λ d. PaysSome (numbers_of set) t d ↔ Has d) (owed_in rows row)
+  in-set low high rows row set inside spans kept all = λ k d within.
       let between = All-get_or (AreBetween low high) rows row [] inside spans k d within in
-      (all (get_or (owed_in rows row) k d).message (All-names (Keeps texts) (owed_in rows row) kept k d within) between.0 between.1 has.0, has.1)
+      let same = all (get_or (owed_in rows row) k d).message (All-names (Keeps texts) (owed_in rows row) kept k d within) between.0 between.1 in
+      (λ pays. (same.0 pays.0, pays.1), λ has. (same.1 has.0, has.1))
 
   -- each number of the set is of a message with the To, and of these names each whose message has it is in the set
   pub record AreWith (set : List Word) (names : List ℕ) : Type 0 where

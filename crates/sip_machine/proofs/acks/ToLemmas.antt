@@ -1,13 +1,19 @@
--- The To that stands beside a kept message stays what it is, and tells which of the messages has a To. The numbers of messages stand under the hashes of Tos.
-use Rattle.sip_machine.proofs.Words.{◌≡◌, ◌<◌, ◌≤◌, ◌↔◌, ◌-◌, ℕ, Bool, true, false, IsTrue, Option, None, Some, bytes_eq, List, [], ◌∷◌, ◌++◌, All, AllPairs, Contains, length, map, slice_get, take, items_where_true, bytes_decides, sym, ◌∙◌, ap, subst, arith, get_or, nat_lt, nat_tests, and-false, cases_lt, ne_eqb, get_or_picked, get_or_from_slice_get, get_or-map, get_or-take, length-map, length-take-le, take_all, All-contains, All-contains_itself, All-from_retain, IsFiltered, All-push, All-take, All-weaker, AllPairs-cons, AllPairs-head, AllPairs-tail, same_reading, solid, Texts, IsBook, Keeps, text_of, only, To, full_hash, numbers_of, IsToOf, IsTo, AreTos, AreUnder, HasAll, IsChanged, count_between, cond, ◌==◌}
+-- The To that stands beside a kept message stays what it is, and tells which of the messages has a To. The numbers of messages stand under their Tos.
+use Rattle.sip_machine.proofs.Words.{◌≡◌, ◌<◌, ◌≤◌, ◌↔◌, ◌-◌, ℕ, Bool, true, false, IsTrue, Option, None, Some, bytes_eq, List, [], ◌∷◌, ◌++◌, All, AllPairs, Contains, length, map, slice_get, take, items_where_true, bytes_decides, sym, ◌∙◌, ap, subst, arith, get_or, nat_lt, nat_tests, and-false, cases_lt, ne_eqb, get_or_picked, get_or_from_slice_get, get_or-map, get_or-take, length-map, length-take-le, take_all, All-contains, All-contains_itself, All-from_retain, IsFiltered, All-push, All-take, All-weaker, AllPairs-cons, AllPairs-head, AllPairs-tail, same_reading, solid, Texts, IsBook, Keeps, text_of, only, To, numbers_of, IsToOf, IsTo, AreTos, AreUnder, HasThose, IsChanged, count_between, cond, ◌==◌, ◌&&◌}
 use Rattle.std.specs.BTreeMap.{is_at}
 use Rattle.std.specs.Option.{option_copied, unwrap_or}
-use Rattle.std.proofs.Common.{Bor, true≢false}
+use Rattle.std.proofs.Common.{Bor, ap₂, inl, inr, refl, true≢false}
 use Rattle.std.specs.Map.{lookup}
-use Rattle.std.specs.Ordering.{nat_cmp}
+use Rattle.std.specs.Bool.{Decides}
+use Rattle.std.specs.Cmp.{first_so, second_so, unsigned_Decides}
+use Rattle.std.proofs.lemmas.Bool.{cond_both}
+use Rattle.std.proofs.lemmas.Cmp.{tied_itself}
+use Rattle.std.proofs.lemmas.List.Elements.{Contains-append_left, Contains-get_or, Contains-push, Contains-push_cases}
 use Rattle.sip_numbers.specs.declared.numbers.Word.{Word}
+use Rattle.sip_machine.specs.inner.Order.{text_cmp}
 use Rattle.sip_machine.specs.inner.Tos.{Sets, is_in, stands}
 use Rattle.sip_machine.proofs.texts.BesideLemmas.{among-all, count_between-is, many}
+use Rattle.sip_machine.proofs.texts.HashLaws.{text_cmp-total, tied-same}
 use Rattle.sip_machine.proofs.texts.TextLaws.{Keeps-grow, text_of-grow}
 use Rattle.sip_machine.proofs.texts.RetainLemmas.{only-Keeps, text_of-only}
 
@@ -109,48 +115,92 @@ module _ {F : Type 0} (R : F → To → Bool → F → Type 0) (f : F) (tos left
 pub AllPairs-take : {X : Type 0} (R : X → X → Type 0) (n : ℕ) (xs : List X) → AllPairs R xs → AllPairs R (take n xs)
 AllPairs-take R n xs up = grind (arith, nat_tests, cases_lt, take_all, length-take-le, get_or-take)
 
--- where all sets are as before, Tos whose numbers stood under their hashes still have them there
+-- where all sets are as before, the numbers that stand under Tos are
 pub under-same : (old new : Sets) (tos : List To) → new.entries ≡ old.entries → AreUnder tos old → AreUnder tos new
 unfolding stands
-under-same old new tos same under k d low = let to = get_or tos k d in ap (λ es. is_in (lookup (is_at (nat_cmp (full_hash to.text))) es) to.number) same ∙ under k d low
+under-same old new tos same under to =
+    subst (λ there. (there ≡ true) ↔ Contains tos to) (ap (λ es. is_in (lookup (is_at (text_cmp to.text)) es) to.number) (sym same)) (under to)
 
--- What follows is of sets in which `there` is what stands under a hash, if a set does, and of one number there.
-module _ (old : Sets) (hash number : ℕ) (is_there : Bool) (there : Option (List Word)) (is : there ≡ lookup (is_at (nat_cmp hash)) old.entries) where
+-- where no To is in the list, no number stands under one
+pub under-none : (sets : Sets) → sets.entries ≡ [] → AreUnder [] sets
+unfolding stands
+under-none sets none to = (
+  λ stood. absurd (true≢false (sym stood ∙ ap (λ es. is_in (lookup (is_at (text_cmp to.text)) es) to.number) none)),
+  λ (i, within, at). absurd (omega (arith, within)),
+)
+
+-- whether a To is this one: by its text, and by the number of its message
+is-to : (to its : To) → Decides (is_at (text_cmp to.text) its.text && its.number == to.number) (to ≡ its)
+is-to to its = (
+  λ both. ap₂ (λ number text. record { number = number; text = text }) (sym ((unsigned_Decides its.number to.number).0 (second_so _ _ both))) (tied-same to.text its.text (first_so _ _ both)),
+  λ same. subst (λ t. (is_at (text_cmp to.text) t.text && t.number == to.number) ≡ true) same (rw (tied_itself text_cmp-total to.text) (grind (arith, nat_tests))),
+)
+
+-- What follows is of sets in which `there` is what stands under a To, if a set does, and of one number there.
+module _ (old : Sets) (to : List ℕ) (number : ℕ) (is_there : Bool) (there : Option (List Word)) (is : there ≡ lookup (is_at (text_cmp to)) old.entries) where
   -- where another set stands there now, which has the number just if `is_there`, and others as before, that number alone is changed
   pub set-changed : (new : Sets) (set : List Word) →
-      ((h : ℕ) → lookup (is_at (nat_cmp h)) new.entries ≡ cond (is_at (nat_cmp hash) h) (Some set) (lookup (is_at (nat_cmp h)) old.entries)) →
-      ((n : ℕ) → numbers_of set n ≡ cond (n == number) is_there (is_in there n)) → IsChanged hash number is_there old new
+      ((text : List ℕ) → lookup (is_at (text_cmp text)) new.entries ≡ cond (is_at (text_cmp to) text) (Some set) (lookup (is_at (text_cmp text)) old.entries)) →
+      ((n : ℕ) → numbers_of set n ≡ cond (n == number) is_there (is_in there n)) → IsChanged to number is_there old new
   unfolding stands
-  set-changed new set each has h n = grind (arith, nat_tests, is, each h, has n)
+  set-changed new set each has text n = ap (λ found. is_in found n) (each text) ∙ by (is_at (text_cmp to) text) refl
+    where
+      was : Option (List Word)
+      was = lookup (is_at (text_cmp text)) old.entries
 
--- where the number of a To is put under its hash, it stands there after the others, and these stand under theirs
-pub under-put : (to : To) (old new : Sets) (tos : List To) → IsChanged (full_hash to.text) to.number true old new → AreUnder tos old →
+      -- b is whether the text is the To
+      by : (b : Bool) → is_at (text_cmp to) text ≡ b → is_in (cond b (Some set) was) n ≡ cond (b && n == number) is_there (is_in was n)
+      by true same = has n ∙ ap (λ found. cond (n == number) is_there (is_in found n)) (is ∙ ap (λ its. lookup (is_at (text_cmp its)) old.entries) (tied-same to text same))
+      by false other = refl
+
+-- where the number of the message of a To is put under it, it stands there as the others do
+pub under-put : (to : To) (old new : Sets) (tos : List To) → IsChanged to.text to.number true old new → AreUnder tos old →
     AreUnder (tos ++ to ∷ []) new
-under-put to old new tos changed under =
-    All-push (λ t. stands new (full_hash t.text) t.number ≡ true) tos to
-    (λ k d low. let was = under k d low in let t = get_or tos k d in grind (arith, nat_tests, changed (full_hash t.text) t.number))
-    (grind (arith, nat_tests, changed (full_hash to.text) to.number))
+under-put to old new tos changed under its =
+    let all = tos ++ to ∷ [] in
+    let is = is-to to its in
+    subst (λ there. (there ≡ true) ↔ Contains all its) (sym (changed its.text its.number)) (cond_both _ true (stands old its.text its.number) (λ there. (there ≡ true) ↔ Contains all its)
+    (λ one. (λ _. subst (Contains all) (is.0 one) (Contains-push tos to), λ _. refl))
+    (λ other. (
+      λ stood. Contains-append_left tos (to ∷ []) its ((under its).0 stood),
+      λ has. elim (Contains-push_cases tos to its has) [
+        | inl had ↦ (under its).1 had
+        | inr same ↦ absurd (true≢false (sym (is.1 same) ∙ other))
+      ],
+    )))
 
--- where a number is taken from a hash, the first Tos, which have lesser numbers, stand where they stood
-pub under-taken : (hash number : ℕ) (old new : Sets) (n : ℕ) (tos : List To) → IsChanged hash number false old new →
-    All (λ to. to.number < number) (take n tos) → AreUnder tos old → AreUnder (take n tos) new
-under-taken hash number old new n tos changed lower under = λ k d low.
-    let less = lower k d low in
-    let stood = All-take (λ to. stands old (full_hash to.text) to.number ≡ true) n tos under k d low in
-    let to = get_or (take n tos) k d in
-    grind (arith, nat_tests, changed (full_hash to.text) to.number, ne_eqb, and-false)
+-- where the number of the last To's message is taken from it, the others stand where they stood
+pub under-taken : (last : To) (old new : Sets) (front : List To) → IsChanged last.text last.number false old new → All (λ to. to.number < last.number) front →
+    AreUnder (front ++ last ∷ []) old → AreUnder front new
+under-taken last old new front changed lower under its =
+    let is = is-to last its in
+    subst (λ there. (there ≡ true) ↔ Contains front its) (sym (changed its.text its.number)) (cond_both _ false (stands old its.text its.number) (λ there. (there ≡ true) ↔ Contains front its)
+    (λ one. (
+      λ no. absurd (true≢false (sym no)),
+      λ has.
+          let less = All-contains (λ to. to.number < last.number) front its lower has in
+          let same = ap (λ (to : To). to.number) (is.0 one) in absurd (omega (arith, less, same)),
+    ))
+    (λ other. (
+      λ stood. elim (Contains-push_cases front last its ((under its).0 stood)) [
+        | inl has ↦ has
+        | inr same ↦ absurd (true≢false (sym (is.1 same) ∙ other))
+      ],
+      λ has. (under its).1 (Contains-append_left front (last ∷ []) its has),
+    )))
 
--- the set that is found under the hash of a To has the numbers of all Tos of the list that are the same; `none` is told where none is found
-pub under-found : (sets : Sets) (tos : List To) (to : List ℕ) (hash : ℕ) (found : Option (Bor (List Word))) (none : Bor (List Word)) → hash ≡ full_hash to →
-    option_copied found ≡ lookup (is_at (nat_cmp hash)) sets.entries → AreUnder tos sets → All (λ its. its.text ≡ to → numbers_of (unwrap_or found none).now its.number ≡ true) tos
+-- the set that is found under a To has the numbers of the messages of the list with this To; `none` is told where none is found
+pub under-found : (sets : Sets) (tos : List To) (to : List ℕ) (found : Option (Bor (List Word))) (none : Bor (List Word)) → ((n : ℕ) → numbers_of none.now n ≡ false) →
+    option_copied found ≡ lookup (is_at (text_cmp to)) sets.entries → AreUnder tos sets →
+    (number : ℕ) → (numbers_of (unwrap_or found none).now number ≡ true) ↔ Contains tos (record { number = number; text = to })
 unfolding stands
-under-found sets tos to hash found none of_to is under = λ k d low same. has found (get_or tos k d).number
-    (ap (λ o. is_in o (get_or tos k d).number) (is ∙ ap (λ h. lookup (is_at (nat_cmp h)) sets.entries) (of_to ∙ ap full_hash (sym same))) ∙ under k d low)
+under-found sets tos to found none empty is under number =
+    subst (λ there. (there ≡ true) ↔ Contains tos (record { number = number; text = to })) (sym (ap (λ set. is_in set number) is) ∙ told found) (under (record { number = number; text = to }))
   where
-    -- a number that is in the set that is found is in what is told
-    has : (found : Option (Bor (List Word))) (n : ℕ) → is_in (option_copied found) n ≡ true → numbers_of (unwrap_or found none).now n ≡ true
-    has None n gone = absurd (true≢false (sym gone))
-    has (Some set) n there = there
+    -- what is told has the number just if the set that is found has it
+    told : (found : Option (Bor (List Word))) → is_in (option_copied found) number ≡ numbers_of (unwrap_or found none).now number
+    told None = sym (empty number)
+    told (Some set) = refl
 
 -- where the values that f gives rise along a list, the list of these values rises
 pub AllPairs-map : {X : Type 0} (f : X → ℕ) (xs : List X) → AllPairs (λ a b. f a < f b) xs → AllPairs (λ a b. a < b) (map f xs)
@@ -163,21 +213,24 @@ AllPairs-map f (x ∷ xs) up = λ i j d lt low.
 placed : (tos : List To) (n : ℕ) → Contains (map (λ to. to.number) tos) n → (i : ℕ) × (i < length tos) × ((get_or tos i nobody).number ≡ n)
 placed tos n (i, within, at) = let low : i < length tos = rw length-map at within in (i, low, sym (get_or-map (λ to. to.number) tos i nobody n low) ∙ at)
 
--- where as many Tos with numbers from `low` up to `high` are in the list as messages with such numbers are kept, a set with the numbers of all Tos of the list
--- that are this one has those of all such messages
-pub has-all : (texts : Texts) (tos : List To) (low high : ℕ) → IsBook texts → AreTos texts tos → AllPairs below tos →
+-- where as many Tos with numbers from `low` up to `high` are in the list as messages with such numbers are kept, a set with the numbers of the messages of
+-- the list that have this To has those of all such messages
+pub has-those : (texts : Texts) (tos : List To) (low high : ℕ) → IsBook texts → AreTos texts tos → AllPairs below tos →
     count_between low high (map (λ k. k.0) texts) ≡ count_between low high (map (λ to. to.number) tos) → (to : List ℕ) (set : List Word) →
-    All (λ its. its.text ≡ to → numbers_of set its.number ≡ true) tos → HasAll texts low high to set
-has-all texts tos low high book are up as_many to set all = λ number kept from to_high is.
-    let kept_numbers = map (λ k. k.0) texts in
-    let numbers = map (λ to. to.number) tos in
-    -- there are as many Tos as messages between the two numbers, and each To is that of a kept message; so each message has one
-    let le : low ≤ high = omega (arith, from, to_high) in
-    let as_few : many low high kept_numbers ≤ many low high numbers = omega (arith, as_many, count_between-is low high kept_numbers le, count_between-is low high numbers le) in
-    let its_kept : (n : ℕ) → Contains numbers n → Keeps texts n = λ n has. let (i, within, at) = placed tos n has in subst (Keeps texts) at (are.each i nobody within).kept in
-    let (i, within, at) = placed tos number (among-all low high kept_numbers numbers (AllPairs-map (λ k. k.0) texts book.rising) (AllPairs-map (λ to. to.number) tos up)
-    its_kept as_few number kept from to_high) in
-    -- the To that stands there is the message's one To
-    let there = get_or tos i nobody in
-    let same = IsToOf-one (text_of texts number) to there.text (subst (λ n. IsToOf (text_of texts n) there.text) at (are.each i nobody within).text) is in
-    subst (λ n. numbers_of set n ≡ true) at (all i nobody within same)
+    ((number : ℕ) → (numbers_of set number ≡ true) ↔ Contains tos (record { number = number; text = to })) → HasThose texts low high to set
+has-those texts tos low high book are up as_many to set all = λ number kept from to_high. (
+  λ has. to_of texts tos number to are ((all number).0 has),
+  λ is.
+      let kept_numbers = map (λ k. k.0) texts in
+      let numbers = map (λ to. to.number) tos in
+      -- there are as many Tos as messages between the two numbers, and each To is that of a kept message; so each message has one
+      let le : low ≤ high = omega (arith, from, to_high) in
+      let as_few : many low high kept_numbers ≤ many low high numbers = omega (arith, as_many, count_between-is low high kept_numbers le, count_between-is low high numbers le) in
+      let its_kept : (n : ℕ) → Contains numbers n → Keeps texts n = λ n has. let (i, within, at) = placed tos n has in subst (Keeps texts) at (are.each i nobody within).kept in
+      let (i, within, at) = placed tos number (among-all low high kept_numbers numbers (AllPairs-map (λ k. k.0) texts book.rising) (AllPairs-map (λ to. to.number) tos up)
+      its_kept as_few number kept from to_high) in
+      -- the To that stands there is the message's one To
+      let there = get_or tos i nobody in
+      let same = IsToOf-one (text_of texts number) to there.text (subst (λ n. IsToOf (text_of texts n) there.text) at (are.each i nobody within).text) is in
+      (all number).1 (subst (Contains tos) (ap₂ (λ n text. record { number = n; text = text }) at same) (Contains-get_or tos i nobody within)),
+)

@@ -4,7 +4,7 @@
 use Rattle.std.specs.Prelude.{◌≡◌, ◌<◌, ◌≤◌, ◌+◌, ◌-◌, ◌++◌, ◌∷◌, ℕ, Bool, true, false, Option, Some, None, List, [], All, AllPairs, Contains, map, length, take, slice_index_or}
 use Rattle.std.specs.declared.cmp.Ordering.{Ordering}
 use Rattle.std.specs.declared.cmp.Ordering.TheVariants.{Less, Greater}
-use Rattle.std.specs.Ordering.{nat_cmp, ordering_then, is_le}
+use Rattle.std.specs.Ordering.{nat_cmp, on, ordering_then, is_le}
 use Rattle.std.specs.List.{AllWithin, HoldsAt, flat_map}
 use Rattle.std.specs.Cmp.Lexicographic.{slice_cmp}
 use Rattle.std.specs.Hash.FoldHasher.{initial, write, finish}
@@ -43,6 +43,10 @@ key_of texts place = (place.hash, bytes_at texts place.position)
 -- keys by their hashes, and those with one hash by their bytes
 abbrev pub compare : ℕ × List ℕ → ℕ × List ℕ → Ordering
 compare a b = ordering_then (nat_cmp a.0 b.0) (slice_cmp nat_cmp a.1 b.1)
+
+-- texts by their hashes, and those with one hash by their bytes
+abbrev pub text_cmp : List ℕ → List ℕ → Ordering
+text_cmp = on (λ text. (full_hash text, text)) compare
 
 -- the place is that of a message of the book, and has the hash of its bytes
 abbrev pub IsPlace : Texts → Place → Type 0

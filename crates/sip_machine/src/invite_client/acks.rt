@@ -51,8 +51,8 @@ pub(crate) fn first_acked(
 }
 
 /// The message of the first debt of the row whose message has this To, from which the blanks were taken, and whose deadline has
-/// not passed. The first debt of all is looked at first. Where it is another one, it is looked for among the messages that the book keeps
-/// under the hash of the To. Where hashes do not stand, each different message that the row owes is looked at.
+/// not passed. The first debt of all is looked at first. Where it is another one, it is looked for among the messages that stand under
+/// the To in the book. Where the book does not tell these, each different message that the row owes is looked at.
 #[tactic(auto, using(crate::proofs::debts::DuesEachLemmas::of_blank))]
 fn first_with_to(
     alloc: Global,
@@ -81,15 +81,7 @@ fn first_with_to(
     let Some(messages) = book.under(low, high, to) else {
         return first_named(alloc, book, to, moment, dues, row);
     };
-    // No debt that can still be paid is of a message in the set, and so none is of one with the To.
-    let Some(message) = dues.first_payable(row, to.hash(), messages, moment)? else {
-        return Ok(None);
-    };
-    // Another To may have the same hash, and then the hash tells nothing.
-    if book.has_to(alloc, message, to, &mut 0)? {
-        return Ok(Some(message));
-    }
-    first_named(alloc, book, to, moment, dues, row)
+    dues.first_payable(row, messages, moment)
 }
 
 /// What `first_with_to` finds, by a look at each message that the row owes, once.
@@ -120,6 +112,5 @@ fn first_named(
             those.put(*message)?;
         }
     }
-    // Under the hash itself another To may stand.
-    dues.first_payable(row, !to.hash(), &those, moment)
+    dues.first_payable(row, &those, moment)
 }

@@ -1,7 +1,7 @@
 use Rattle.std.proofs.lemmas.List.Elements.{All-more}
-use Rattle.sip_machine.proofs.Words.{◌≡◌, ◌==◌, ◌<◌, ◌+◌, ◌∙◌, ℕ, List, Texts, ap, arith, cond, inl, inr, sym, subst, true, true≢false, cases_eq, nat_tests, ne_eqb, All, All-names, All-nil, All-weaker, IfOk-weaker, IsToOf, Keeps, PaysSome, get_or, length, numbers_of, owed_in, take, take_all, text_of}
+use Rattle.sip_machine.proofs.Words.{◌≡◌, ◌==◌, ◌<◌, ◌+◌, ◌∙◌, ℕ, List, Texts, ap, arith, cond, inl, inr, sym, subst, true, true≢false, cases_eq, nat_tests, ne_eqb, All, All-names, All-nil, All-weaker, IfOk-weaker, IsToOf, Keeps, get_or, length, numbers_of, owed_in, take, take_all, text_of}
 use Rattle.sip_numbers.specs.declared.numbers.Word.{Word}
-use Rattle.sip_machine.proofs.acks.HolderLemmas.{AreWith, found-is, found-with}
+use Rattle.sip_machine.proofs.acks.HolderLemmas.{AreWith, found-among}
 use Rattle.sip_machine.proofs.debts.NamesLemmas.{all-named, all-owed}
 use Rattle.sip_machine.proofs.invite_client.acks.first_named.Goals as goal
 use Rattle.sip_machine.proofs.invite_client.acks.first_named.Goals.{then-branch+in_ok-put, else-branch}
@@ -67,7 +67,5 @@ returns-clause-finds c =
     let each = rw (take_all c.loop-message.message-index items.result.now c.loop-message-test.false, items.ensures.value) at c.loop-message.invariant.each in
     let named = rw c.in-Some.ensures.some at c.in_ok-names_once.ensures.ok in
     let all = All-names InSet owes (all-owed InSet owes _ _ c.new-messages.ensures.items named each) in
-    IfOk-weaker c.first_payable.result _ _ (λ found first.
-    found-with texts to t set owes found (λ k d low has. (all k d low has.0, has.1)) first
-    (found-is (PaysSome (numbers_of set) t) (λ m. IsToOf (text_of texts m) to) t owes found
-    (λ k d low pays. c.loop-message.invariant.only (get_or owes k d).message pays.0) first)) c.first_payable.ensures.first
+    IfOk-weaker c.first_payable.result _ _ (λ found. found-among texts to t set owes found (λ k d low.
+    (λ pays. (c.loop-message.invariant.only (get_or owes k d).message pays.0, pays.1), λ has. (all k d low has.0, has.1)))) c.first_payable.ensures.first

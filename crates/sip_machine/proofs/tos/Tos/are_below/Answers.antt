@@ -1,4 +1,4 @@
--- Of the invariant of Tos (`c.self.invariant`) part 0 says that the numbers of the messages rise, and 1 that each stands under its hash, if hashes are kept.
+-- Of the invariant of Tos (`c.self.invariant`) part 0 says that the numbers of the messages rise, and 1 that each stands under its To, if sets are kept.
 use Rattle.sip_machine.proofs.acks.ToLemmas.{below_last}
 use Rattle.sip_machine.proofs.tos.Tos.are_below.Goals as goal
 

@@ -1,4 +1,4 @@
--- Of the invariant of Tos (`c.self.invariant`) part 0 says that the numbers of the messages rise, and 1 that each stands under its hash, if hashes are kept.
+-- Of the invariant of Tos (`c.self.invariant`) part 0 says that the numbers of the messages rise, and 1 that each stands under its To, if sets are kept.
 use Rattle.sip_machine.proofs.Words.{◌∙◌, nat_le, nat_lt, rules, always_returns_same, IsPartitionedBy-leb, IsPartitionedBy-ltb}
 use Rattle.sip_machine.proofs.texts.BesideLemmas.{rises_weakly, count_between-parted}
 use Rattle.sip_machine.proofs.tos.Tos.between.Goals as goal

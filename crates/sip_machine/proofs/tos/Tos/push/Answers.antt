@@ -1,16 +1,16 @@
--- Of the invariant of Tos (`c.self.invariant`) part 0 says that the numbers of the messages rise, and 1 that each stands under its hash, if hashes are kept.
+-- Of the invariant of Tos (`c.self.invariant`) part 0 says that the numbers of the messages rise, and 1 that each stands under its To, if sets are kept.
 use Rattle.sip_machine.proofs.Words.{◌<◌, All, all_pairs_push, To}
 use Rattle.sip_machine.proofs.acks.ToLemmas.{below, under-put, under-same}
 use Rattle.sip_machine.proofs.tos.Tos.push.Goals as goal
 use Rattle.sip_machine.proofs.tos.Tos.push.Goals.{in-Some+in_ok-put, in_default}
 
--- where the number is put under no hash, the Tos and all sets are as before
+-- where the number is put under no To, the Tos and all sets are as before
 pub invariant_of-self-in_err-put : goal.invariant_of-self-in_err-put
 invariant_of-self-in_err-put c =
     rw c.in_ok-reserve.ensures.items
-    (c.self.invariant.0, under-same _ c.put.new.sets c.self.inside.list.items c.in_err-put.ensures.err (rw c.in-Some.is at c.self.invariant.1))
+    (c.self.invariant.0, under-same _ c.put.new.sets c.self.inside.list.items c.in_err-put.ensures.err (rw c.in-Some.is at c.self.invariant.1), c.self.invariant.2)
 
--- with the new To the others are in order, and each stands under its hash
+-- with the new To the others are in order, and each stands under its To
 pub invariant_of-self-2 : goal.invariant_of-self-2
 invariant_of-self-2 c =
     let tos = c.self.inside.list.items in
@@ -21,6 +21,6 @@ invariant_of-self-2 c =
     elim c.match-self.branch [
       | in-Some+in_ok-put w ↦
           rw (c.push_reserved.ensures.items, w.self-inside-is, c.in_ok-reserve.ensures.items)
-          (rise, under-put to _ w.put.new.sets tos (rw w.hash.ensures at w.in_ok-put.ensures.ok) (rw w.in-Some.is at c.self.invariant.1))
-      | in_default w ↦ rw (c.push_reserved.ensures.items, w.self-inside-is, c.in_ok-reserve.ensures.items, w.in_default.is) (rise, tt)
+          (rise, under-put to _ w.put.new.sets tos w.in_ok-put.ensures.ok (rw w.in-Some.is at c.self.invariant.1), c.self.invariant.2)
+      | in_default w ↦ rw (c.push_reserved.ensures.items, w.self-inside-is, c.in_ok-reserve.ensures.items, w.in_default.is) (rise, tt, c.self.invariant.2)
     ]

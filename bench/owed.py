@@ -126,6 +126,15 @@ def refused(count, tags, order, between=False):
         yield "S", 0, text("ACK sip:b SIP/2.0", "ACK", 1, tags(number))
 
 
+def states_in_other_orders(count, _):
+    """A server of which many states owe the same in other orders, since two responses and the INVITE come in turn; then so many fresh responses."""
+    yield ASK
+    for _ in range(12):
+        yield from [("S", 0, reply(181, "w")), ("S", 0, reply(182, "w")), ASK]
+    for number in range(count):
+        yield "S", 0, reply(180, f"f{number}")
+
+
 def acks_of_pairs(count, _):
     """Refusals of which each two have one To, and different texts; their ACKs, newest first."""
     yield "S", 0, text(INVITE)
@@ -352,6 +361,7 @@ LOGS = [
     (fresh_and_repeats, 250, (2, 100, 1024)),
     (equal_then_plain, 6000, (2, 100, 1024)),
     (wide_sets_and_plain, 1000, (2, 100, 1024)),
+    (states_in_other_orders, 500, (464,)),
     # ACKs of an INVITE client, for responses with few Tos or with many.
     (acks_of_pairs, 4000, (1,)),
     (acks_with_others_between, 4000, (1,)),

@@ -256,6 +256,7 @@ impl Played {
         holds(rt, self.accounts.len() == self.lists.len(), "count of rows");
         self.names_all(rt)?;
         let prints = self.accounts.prints(self.alloc, 0)?;
+        let fronts = self.accounts.front_prints(self.alloc, 0, FRONT)?;
         for (row, list) in self.lists.iter().enumerate() {
             self.owes_debts(rt, row, list)?;
             self.owes_in_time(rt, row, list)?;
@@ -267,10 +268,25 @@ impl Played {
                 holds(rt, same == (list == its), "the same");
                 let alike = prints.get(row) == prints.get(other);
                 holds(rt, list != its || alike, "prints");
+                let alike = fronts.get(row) == fronts.get(other);
+                holds(rt, list != its || alike, "front prints");
+                holds(rt, !alike || begin_alike(list, its), "fronts");
             }
         }
         Ok(())
     }
+}
+
+/// Of so many debts front prints tell the order.
+const FRONT: usize = 2;
+
+/// Whether the first debts of two lists, as many as front prints tell of, have the same messages and deadlines in the same order.
+fn begin_alike(one: &[Debt], other: &[Debt]) -> bool {
+    let front = one.iter().take(FRONT);
+    let beside = other.iter().take(FRONT);
+    front
+        .map(|debt| (debt.message, debt.deadline))
+        .eq(beside.map(|debt| (debt.message, debt.deadline)))
 }
 
 /// The list loses the first debt that a send of the message pays, if there is one, and what is past. Tells whether there was one.

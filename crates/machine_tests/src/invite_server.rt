@@ -1,11 +1,11 @@
 //! The INVITE server, with moments worked out by hand for T1 500, T2 4000, T4 5000 and a tolerance of 50.
 use crate::messages::{Numbered, Start, book_of};
 use crate::rows::{self, EndsRow, MAY, MUST, all_end, phase_ends};
-use crate::runs::Entry;
+use crate::runs::{Entry, run};
 use crate::times::params;
 use crate::wants::holds;
 use sip_machine::{Action, Book, InviteServer, InviteServerPhase, Machine};
-use std::alloc::Global;
+use std::alloc::{AllocError, Global};
 use std::process::Abort;
 use std::test::Fail;
 
@@ -618,4 +618,39 @@ fn ends_over_tcp(rt: HostRuntime) -> Result<(), Fail> {
         (Some((700, Some(750))), Some(750)),
         "confirmed",
     )
+}
+
+/// How often a 180, a 183 and the INVITE come in turn in the next test.
+const TURNS: usize = 10;
+
+/// The INVITE is received, and then a 180 and a 183 are sent and the INVITE is received again, in turn, all at one moment.
+fn turns(alloc: Global) -> Result<Vec<Entry>, AllocError> {
+    let mut entries = Vec::new(alloc);
+    push_turns(&mut entries)?;
+    Ok(entries)
+}
+
+/// Appends the entries of `turns`.
+fn push_turns(entries: &mut Vec<Entry>) -> Result<(), AllocError> {
+    entries.push((0, Action::Received, INVITE))?;
+    for _turn in 0..TURNS {
+        entries.push((0, Action::Sent, RINGING))?;
+        entries.push((0, Action::Sent, PROGRESS))?;
+        entries.push((0, Action::Received, INVITE))?;
+    }
+    Ok(())
+}
+
+/// Many of the states owe the same in other orders. A count of lists by hand gives 176 states: each send pays the first debt of its response, or is one of
+/// its own, and each INVITE is owed the response that was sent last.
+#[test]
+fn states_that_owe_the_same_in_other_orders_stay(rt: HostRuntime) -> Result<(), Fail> {
+    let pool = run(
+        rt.alloc(),
+        &server()?,
+        &book(rt.alloc())?,
+        &turns(rt.alloc())?,
+    )?;
+    holds(&rt, pool.len() == 176, "176 states");
+    Ok(())
 }

@@ -13,4 +13,4 @@ pub use Rattle.std.proofs.lemmas.List.Sums.{sum_by-append, sum_by-cons, sum_by_p
 pub use Rattle.std.proofs.lemmas.Nat.{mod_below}
 pub use Rattle.std.proofs.lemmas.Result.{IfOk-weaker}
 pub use Rattle.sip_ledger.specs.inner.Words.{Account, All, AppendsOwed, AreAccounts, AreAppended, AreFlags, AreGains, AreKept, AreMoved, ArePlaces, AreQueues, AreRising, AreRuns, AreSameGains, AreStruckToo, BTreeSet, Contains, Debt, EndsWith, Entry, Err, Flags, Gains, HasLeft, IfNone, IfSome, Included, IsAccount, IsAfter, IsClearedTo, IsDropped, IsErr, IsExpiredTo, IsFirstHeld, IsFirstPaying, IsFirstPaid, IsFirstPayable, IsFrom, IsGain, IsGainAt, IsGap, IsUndropped, IsKeyRangeOf, IsLetGo, IsLowerBound, IsMoved, IsNextGain, IsNext, IsNextLeft, IsNoted, IsQueue, IsSeek, IsStruck, IsTrue, IsUpperBound, IsWithout, IsWithoutFirst, IsWritten, KeepsAccounts, MatchOption, None, Ok, OnErr, Option, PaysSome, PaysSomeAt, Reaches, Result, Rise, Run, SharesNext, Some, Stands, StartFrom, Strike, StrikeToo, StrikesNoneFrom, Unbounded, UpdatesBy, blank, copy_within, count_by, counts_at, debt_deadlines, debt_of, debts_from, debts_in, earliest, entry_at, fold, from_to, is_eq, is_err, is_gt, is_out, is_payable, is_some, is_timely, least_after, list_any, max, min, nat_le, nat_lt, no_flags, option_to_list, owed_in, owes_message, paid_by, paid_rows, pair_cmp, pays_at, replicate, slice_get, softened_account, softened_debt, some_owes, sooner, strikes_of, vec_capacity, ◌↔◌, ◌⊎◌, accounts_debts}
-unfoldable pub use Rattle.sip_ledger.specs.inner.Words.{account_debts, debts_print, entries_of, holds, is_left, is_struck, must_at, numbers_of, owes_at, worth_of}
+unfoldable pub use Rattle.sip_ledger.specs.inner.Words.{account_debts, debts_print, entries_of, holds, is_left, is_struck, must_at, numbers_of, order_print, owes_at, worth_of}

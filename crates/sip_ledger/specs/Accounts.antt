@@ -1,5 +1,5 @@
-use Rattle.std.specs.Prelude.{ℕ, Bool, List, [], ◌≡◌, ◌↔◌, ◌==◌, ◌/◌, ◌*◌, ◌%◌, ◌^◌, ◌&&◌, ◌++◌, Contains, IsTrue, bit_xor, filter, get_or, map}
-use Rattle.std.specs.List.{list_any, sum_by}
+use Rattle.std.specs.Prelude.{ℕ, Bool, List, [], take, ◌≡◌, ◌↔◌, ◌==◌, ◌/◌, ◌*◌, ◌%◌, ◌^◌, ◌&&◌, ◌++◌, Contains, IsTrue, bit_xor, filter, get_or, map}
+use Rattle.std.specs.List.{fold, list_any, sum_by}
 use Rattle.sip_ledger.specs.declared.debt.Debt.{Debt}
 use Rattle.sip_ledger.specs.Debts.{counts_at, is_payable, is_timely, paid_by}
 use Rattle.sip_ledger.specs.Lists.{Rise}
@@ -27,6 +27,14 @@ worth_of message deadline = mixed (mixed (mixed 1 message) deadline) (mixed (mix
 -- a number for debts, whatever has to be paid: the sum of their numbers
 unfoldable pub debts_print : List Debt → ℕ
 debts_print debts = sum_by (λ debt. worth_of debt.message debt.deadline) debts % 2 ^ 64
+
+-- a number for debts in their order, whatever has to be paid: each is mixed in after the others
+unfoldable pub order_print : List Debt → ℕ
+order_print debts = fold (λ print debt. mixed (mixed print debt.message) debt.deadline) 1 debts
+
+-- a number for debts, in which the order of the first ones counts too, of so many at most
+abbrev pub front_print : ℕ → List Debt → ℕ
+front_print most debts = mixed (debts_print debts) (order_print (take most debts))
 
 -- whether one of the debts is of the message
 abbrev pub owes_message : ℕ → List Debt → Bool

@@ -1,3 +1,3 @@
--- Which debts an ACK pays: the Tos beside messages, and the messages under the hashes of their Tos.
+-- Which debts an ACK pays: the Tos beside messages, and the messages under their Tos.
 pub mod ToLemmas
 pub mod HolderLemmas

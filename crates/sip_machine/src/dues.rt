@@ -265,6 +265,19 @@ impl Dues {
         })
     }
 
+    /// Such numbers, in which the order of the first debts of each row counts too, of so many at most.
+    pub(crate) fn front_prints(
+        &self,
+        alloc: Global,
+        from: usize,
+        most: usize,
+    ) -> Result<Vec<u64>, AllocError>
+        requires { from ≤ length self.now }
+        ensures { IfOk result (λ prints. ArePrints self.now from prints.items) }
+    {
+        rows!(&self.rows, accounts => Ok(accounts.front_prints(alloc, from, most)?), _ => self.prints(alloc, from))
+    }
+
     /// Puts the number of the message of each debt of the row after those in the vector. On an error the vector is as before.
     pub(crate) fn names(&self, alloc: Global, row: usize, numbers: &mut Vec<u64>) -> Done
         requires { row < length self.now }

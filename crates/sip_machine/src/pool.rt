@@ -21,6 +21,15 @@ use std::alloc::{AllocError, Global};
 use std::hash::{FoldHasher, Hasher};
 use std::marker::Model;
 
+/// After so many looks in vain, prints are asked for in which the order of debts counts too.
+const FEW_LOOKS: usize = 64;
+
+/// The order of so many debts of each state counts at first.
+const FEW_DEBTS: usize = 8;
+
+/// A look at two states takes as long as a walk over so many debts.
+const DEBTS_OF_A_LOOK: usize = 16;
+
 /// Up to this many states are told apart by a look at each other, which costs less than to keep their prints.
 const FEW: usize = 8;
 
@@ -217,28 +226,69 @@ impl<P: Phase> Pool<P> {
         Ok(rows)
     }
 
-    /// The indices of the states from `from` on, of equal ones that of the first alone, found by a look at those of the same print.
+    /// The indices of the states from `from` on, of equal ones that of the first alone, found by a look at those of the same print. Where many states owe the
+    /// same in other orders, these are looked at in vain. Then the order of what is owed first counts in the prints too, of more and
+    /// more debts.
     #[inline(never)]
     fn first_of_many(&self, from: usize) -> Result<Vec<usize>, AllocError>
         requires { from ≤ length self.now }
         ensures { IfOk result (λ rows. AreFirstOnes self.now from (length self.now) rows.items) }
     {
+        let mut prints = self.prints(from)?;
+        let mut looks = FEW_LOOKS;
+        let mut debts = FEW_DEBTS;
+        for _turn in 0..usize::MAX {
+            if let Some(rows) = self.first_by(from, &prints, looks)? {
+                return Ok(rows);
+            }
+            prints = self.front_prints(from, debts)?;
+            // As many looks in vain as take the time of the walk.
+            looks = prints.len().saturating_mul(debts) / DEBTS_OF_A_LOOK;
+            debts = debts.saturating_mul(4);
+        }
+        // No set has as many states as a number can count.
+        Err(AllocError)
+    }
+
+    /// The indices of the states from `from` on, of equal ones that of the first alone, found by a look at those of the same print, which stands in the list for
+    /// each; None where more than `most` looks are in vain.
+    fn first_by(
+        &self,
+        from: usize,
+        prints: &[u64],
+        most: usize,
+    ) -> Result<Option<Vec<usize>>, AllocError>
+        requires from { from ≤ length self.now }
+        requires prints { ArePrints self.now from prints.now }
+        ensures { IfOk result (λ found. IfSome found (λ rows. AreFirstOnes self.now from (length self.now) rows.items)) }
+    {
         let alloc = *self.phases.allocator();
-        let prints = self.prints(from)?;
         let mut slots = Slots::with_room(alloc, prints.len())?;
         let mut rows = Vec::with_capacity(alloc, prints.len())?;
+        let mut left = most;
         for at in from..self.len() {
+            if left == 0 {
+                return Ok(None);
+            }
             let print = prints[at - from];
-            if !self.is_repeat(&slots, print, &rows, at) {
+            if !self.is_repeat(&slots, print, &rows, at, &mut left) {
                 slots.push(print)?;
                 rows.push(at)?;
             }
         }
-        Ok(rows)
+        Ok(Some(rows))
     }
 
-    /// Whether one of the states at the indices, whose prints the slots have, is the same as the one at `at`, which has this print.
-    fn is_repeat(&self, slots: &Slots, print: u64, rows: &[usize], at: usize) -> bool
+    /// Whether one of the states at the indices, whose prints the slots have, is the same as the one at `at`, which has this print. Each look in vain
+    /// leaves one less of those that are left.
+    fn is_repeat(
+        &self,
+        slots: &Slots,
+        print: u64,
+        rows: &[usize],
+        at: usize,
+        left: &mut usize,
+    ) -> bool
         requires at { at < length self.now }
         requires within { All (λ row. row < length self.now) rows.now }
         requires long { length slots.now.prints ≡ length rows.now }
@@ -251,6 +301,7 @@ impl<P: Phase> Pool<P> {
             if self.is_same(rows[found], at) {
                 return true;
             }
+            *left = left.saturating_sub(1);
             next = slots.before(found);
         }
         false
@@ -270,21 +321,41 @@ impl<P: Phase> Pool<P> {
         false
     }
 
-    /// A number for each state from `from` on. Equal states have the same number, and others hardly ever.
+    /// A number for each state from `from` on. Equal states have the same number, and others hardly ever, but where they owe the same in another order.
     #[inline(never)]
     fn prints(&self, from: usize) -> Result<Vec<u64>, AllocError>
         requires { from ≤ length self.now }
         ensures { IfOk result (λ prints. ArePrints self.now from prints.items) }
     {
         let mut prints = self.dues.prints(*self.phases.allocator(), from)?;
+        self.mix_phases(from, &mut prints);
+        Ok(prints)
+    }
+
+    /// Such numbers, in which the order of what each state owes first counts too, of so many debts at most.
+    fn front_prints(&self, from: usize, most: usize) -> Result<Vec<u64>, AllocError>
+        requires { from ≤ length self.now }
+        ensures { IfOk result (λ prints. ArePrints self.now from prints.items) }
+    {
+        let alloc = *self.phases.allocator();
+        let mut prints = self.dues.front_prints(alloc, from, most)?;
+        self.mix_phases(from, &mut prints);
+        Ok(prints)
+    }
+
+    /// Mixes the hashes of the phases into the numbers of what the states from `from` on owe.
+    fn mix_phases(&self, from: usize, prints: &mut [u64])
+        requires from { from ≤ length self.now }
+        requires prints { ArePrints (map (λ x. x.owes) self.now) from prints.old }
+        ensures { ArePrints self.now from prints.new }
+    {
         let mut at = from;
         while at < self.len() {
             let end = self.run_end(at, self.len());
             let hash = hash_of(&self.phases[at]);
-            mix(&mut prints, at - from, end - from, hash);
+            mix(prints, at - from, end - from, hash);
             at = end;
         }
-        Ok(prints)
     }
 
     /// The end of the states from `at` on that are in the phase of the one at `at`: one past the last of them, `limit` at most.

@@ -7,8 +7,8 @@ pub use Rattle.std.specs.Prelude.{All, Bool, Contains, Err, IfNone, IfOk, IfSome
 pub use Rattle.std.specs.Vec.{vec_capacity}
 pub use Rattle.std.specs.declared.ops.Bound.TheVariants.{Included, Unbounded}
 pub use Rattle.sip_standard.specs.Debts.{IsWithoutFirst}
-pub use Rattle.sip_ledger.specs.Accounts.{AppendsOwed, owed_in, owes_message, paid_rows, some_owes}
-unfoldable pub use Rattle.sip_ledger.specs.Accounts.{debts_print, worth_of}
+pub use Rattle.sip_ledger.specs.Accounts.{AppendsOwed, front_print, owed_in, owes_message, paid_rows, some_owes}
+unfoldable pub use Rattle.sip_ledger.specs.Accounts.{debts_print, order_print, worth_of}
 pub use Rattle.sip_ledger.specs.Debts.{IsFirstPaid, PaysSome, counts_at, debt_deadlines, earliest, is_payable, is_timely, paid_by, softened_debt}
 pub use Rattle.sip_ledger.specs.Entries.{IsGap, debt_of, debts_from}
 pub use Rattle.sip_ledger.specs.Lists.{Rise, from_to}

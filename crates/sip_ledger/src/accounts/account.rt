@@ -1,6 +1,6 @@
 //! What one row owes of what was gained.
 ghost use Rattle.std.specs.Prelude.{◌≡◌, ◌↔◌, ◌<◌, ◌≤◌, ◌*◌, ◌%◌, ◌^◌, ◌++◌, ◌∷◌, ◌+◌};
-ghost use Rattle.sip_ledger.specs.inner.Words.{[], ℕ, Bool, true, false, Some, IfOk, IfSome, IfNone, IsTrue, bit_xor, filter, length, option_to_list, take, OnTrue, counts_at, debt_deadlines, earliest, is_timely, paid_by, worth_of, debt_of, Account, AreGains, IsAccount, IsAfter, IsExpiredTo, IsFirstPaying, IsFirstPayable, IsGainAt, IsUndropped, IsNextGain, IsSeek, IsWithout, KeepsAccounts, SharesNext, account_debts, entries_of, entry_at, is_struck, must_at, owes_at, pays_at, softened_account, sooner, strikes_of, numbers_of};
+ghost use Rattle.sip_ledger.specs.inner.Words.{[], ℕ, Bool, true, false, Some, IfOk, IfSome, IfNone, IsTrue, bit_xor, filter, length, option_to_list, take, OnTrue, counts_at, debt_deadlines, earliest, is_timely, front_print, paid_by, worth_of, debt_of, Account, AreGains, IsAccount, IsAfter, IsExpiredTo, IsFirstPaying, IsFirstPayable, IsGainAt, IsUndropped, IsNextGain, IsSeek, IsWithout, KeepsAccounts, SharesNext, account_debts, entries_of, entry_at, is_struck, must_at, owes_at, pays_at, softened_account, sooner, strikes_of, numbers_of};
 
 use crate::accounts::gains::{Gains, Seek};
 use crate::accounts::strikes::{Strike, Strikes, are_same, first_alone, put, struck_to};
@@ -627,6 +627,25 @@ pub(crate) fn same(gains: &Gains, strikes: &[Strike], one: Account, other: Accou
         beside = next(gains, strikes, other, beside + 1 + count);
     }
     at == one.end && beside == other.end
+}
+
+/// The number of what the account owes, in which the order of its first debts counts too, of so many at most.
+#[tactic(auto, using(crate::proofs::account::ToldLemmas::told_by_place))]
+pub(crate) fn front_print(gains: &Gains, strikes: &[Strike], account: Account, most: usize) -> u64
+    requires gained { AreGains gains.now }
+    requires account { IsAccount gains.now strikes.now account }
+    ensures { result ≡ front_print most (account_debts gains.now strikes.now account) }
+{
+    let mut print = 1;
+    let mut place = account.start;
+    let mut count = 0;
+    while place < account.end && count < most {
+        let entry = gains.entry(place);
+        print = mixed(mixed(print, entry.message), entry.deadline);
+        place = next(gains, strikes, account, place + 1);
+        count += 1;
+    }
+    mixed(account.print, print)
 }
 
 /// What the account owes.

@@ -2,7 +2,7 @@
 use Prim.Native.Nat.{suc, zero}
 use Rattle.std.specs.List.{copy_within}
 use Rattle.std.proofs.lemmas.List.{nil_from_length}
-use Rattle.sip_machine.proofs.Words.{◌≡◌, ◌<◌, ◌≤◌, ℕ, List, [], ◌∷◌, ◌++◌, drop, get_or, length, set, take, HoldsAt, refl, sym, ◌∙◌, ap, ap₂, subst, arith, nat_tests, get_or-append_seam, take-append_seam, length-drop, set-get_or, set_at, set_split, drop_all, length-take, length_push, take-take, take_all, take_at, take_rest, length-take-le, ◌-◌, Debt, CodeOwing, at_rest, state_in, Rest, Stays, Pays, owed_in, rested_debts, rests_at, beside}
+use Rattle.sip_machine.proofs.Words.{◌≡◌, ◌<◌, ◌≤◌, ℕ, List, [], ◌∷◌, ◌++◌, drop, get_or, length, map, set, take, HoldsAt, refl, sym, ◌∙◌, ap, ap₂, subst, arith, nat_tests, get_or-append_seam, take-append_seam, length-drop, set-get_or, set_at, set_split, drop_all, length-take, length_push, take-take, take_all, take_at, take_rest, length-take-le, ◌-◌, Debt, CodeOwing, at_rest, state_in, Rest, Stays, Pays, owed_in, rested_debts, rests_at, beside}
 
 -- What follows is of phases beside the rows of what is owed, as the states of a pool.
 module _ {S : Type 0} where
@@ -138,3 +138,10 @@ dropped-first count len xs is few = grind (arith, nat_tests, length-drop, take_a
 
 -- what is left in a pool after the first states: the lemmas that `using(..)` gives the prover in `src/pool.rt`
 pub ruleset of_drop = (beside-length, beside-drop, dropped-first, length-drop)
+
+-- states of phases that owe what rows have, one each, owe what the rows have
+pub owes-beside : {S : Type 0} (phases : List S) (rows : List (List Debt)) → length rows ≡ length phases → map (λ x. x.owes) (beside phases rows) ≡ rows
+owes-beside [] [] long = refl
+owes-beside [] (owes ∷ rows) long = absurd (omega (arith, long))
+owes-beside (phase ∷ phases) [] long = absurd (omega (arith, long))
+owes-beside (phase ∷ phases) (owes ∷ rows) long = ap (λ l. owes ∷ l) (owes-beside phases rows (omega (arith, long)))

@@ -1,9 +1,6 @@
-use Rattle.sip_machine.proofs.Words.{◌≡◌, ◌<◌, ◌-◌, ℕ, get_or, length, AreFirstOnes}
+use Rattle.sip_machine.specs.inner.Prints.{ArePrints}
 use Rattle.sip_machine.proofs.pool.Pool.first_of_many.Given as goal
 
--- the rows are the first of equal states before the index, and the slots have their prints
-abbrev pub invariant-loop-at : goal.invariant-loop-at
-invariant-loop-at g l =
-    AreFirstOnes l.self l.from l.at l.rows.items
-    × (length l.slots.prints ≡ length l.rows.items)
-    × ((k : ℕ) → k < length l.rows.items → get_or l.slots.prints k 0 ≡ get_or l.prints.items (get_or l.rows.items k 0 - l.from) 0)
+-- there is a print for each state, and equal states have equal ones
+abbrev pub invariant-loop-turn : goal.invariant-loop-turn
+invariant-loop-turn g l = ArePrints l.self l.from l.prints.items

@@ -1,8 +1,8 @@
 -- At each turn of the loop (`c.loop-at.invariant`) part 0 says that the rows are the first ones, 1 that the slots have as many prints, 2 that they are theirs.
 use Rattle.sip_machine.proofs.Words.{◌≡◌, ◌<◌, ◌+◌, ◌-◌, get_or, length, ◌∙◌, ap, sym, subst, arith, cases_lt, get_or_default, get_or_append_left, get_or_push, length_push, AreFirstOnes}
 use Rattle.sip_machine.proofs.pools.FirstLemmas.{first-told, first-again}
-use Rattle.sip_machine.proofs.pool.Pool.first_of_many.Goals as goal
-use Rattle.sip_machine.proofs.pool.Pool.first_of_many.Goals.{then-not-is_repeat+in_ok-push+in_ok-push-2, else-not-is_repeat}
+use Rattle.sip_machine.proofs.pool.Pool.first_by.Goals as goal
+use Rattle.sip_machine.proofs.pool.Pool.first_by.Goals.{then-not-is_repeat+in_ok-push+in_ok-push-2, else-not-is_repeat}
 
 -- the rows are those up to here whose state has no equal before it, and the slots have the print of each
 pub loop-at-preserved : goal.loop-at-preserved
@@ -11,18 +11,16 @@ loop-at-preserved g c =
     let at = c.loop-at.at in
     let from = c.args.from in
     let rows = c.loop-at.rows.items in
-    let prints = c.in_ok-prints.prints.items in
+    let prints = c.args.prints.now in
     -- `kept` are the prints in the slots, and `print` is that of the state at hand
     let kept = c.loop-at.slots.prints in
-    let print = c.index-print.result.now in
+    let print = get_or prints (at - from) 0 in
     -- the state has an equal before it exactly if one of the first ones is equal
     let (first, long, told) = c.loop-at.invariant in
     let repeats = rw c.deref.ensures.value at c.is_repeat.ensures in
     elim c.if-not-is_repeat.branch [
       -- no state before it is equal, so its row is one of the first ones
       | then-not-is_repeat+in_ok-push+in_ok-push-2 w ↦
-          let low_at : at - from < length prints = omega (arith, c.in_ok-prints.ensures.long) in
-          let here : get_or prints (at - from) 0 ≡ print = get_or_default prints (at - from) 0 print low_at ∙ sym c.index-print.ensures in
           let more_rows = length_push rows at in
           let more_kept = length_push kept print in
           -- the rows have one more, and the print of each row stands beside it

@@ -1,7 +1,7 @@
 //! The INVITE server, with moments worked out by hand for T1 500, T2 4000, T4 5000 and a tolerance of 50.
 use crate::messages::{Numbered, Start, book_of};
 use crate::rows::{self, EndsRow, MAY, MUST, all_end, phase_ends};
-use crate::runs::{Entry, run};
+use crate::runs::{Entry, run_together};
 use crate::times::params;
 use crate::wants::holds;
 use sip_machine::{Action, Book, InviteServer, InviteServerPhase, Machine};
@@ -645,7 +645,7 @@ fn push_turns(entries: &mut Vec<Entry>) -> Result<(), AllocError> {
 /// its own, and each INVITE is owed the response that was sent last.
 #[test]
 fn states_that_owe_the_same_in_other_orders_stay(rt: HostRuntime) -> Result<(), Fail> {
-    let pool = run(
+    let pool = run_together(
         rt.alloc(),
         &server()?,
         &book(rt.alloc())?,

@@ -168,7 +168,7 @@ fn are_among<P: Phase>(states: &[State<P>], others: &[State<P>]) -> bool {
 }
 
 /// The states of the machine after the entries, when all states take each entry at once.
-fn run_together<M: Machine>(
+pub(crate) fn run_together<M: Machine>(
     alloc: Global,
     machine: &M,
     book: &Book,

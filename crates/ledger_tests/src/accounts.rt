@@ -255,8 +255,8 @@ impl Played {
     fn owes_lists(&self, rt: &impl Abort) -> Done {
         holds(rt, self.accounts.len() == self.lists.len(), "count of rows");
         self.names_all(rt)?;
-        let prints = self.accounts.prints(self.alloc, 0)?;
-        let fronts = self.accounts.front_prints(self.alloc, 0, FRONT)?;
+        let prints = self.accounts.prints(self.alloc, 0, 0)?;
+        let fronts = self.accounts.prints(self.alloc, 0, FRONT)?;
         for (row, list) in self.lists.iter().enumerate() {
             self.owes_debts(rt, row, list)?;
             self.owes_in_time(rt, row, list)?;

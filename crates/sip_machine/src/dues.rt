@@ -252,21 +252,9 @@ impl Dues {
         rows!(&self.rows, accounts => accounts.same(row, other), _ => true)
     }
 
-    /// A number for what each row from `from` on owes. Rows that owe the same have the same number, and others hardly ever.
-    pub(crate) fn prints(&self, alloc: Global, from: usize) -> Result<Vec<u64>, AllocError>
-        requires { from ≤ length self.now }
-        ensures { IfOk result (λ prints. ArePrints self.now from prints.items) }
-    {
-        rows!(&self.rows, accounts => Ok(accounts.prints(alloc, from)?), count => {
-            // Rows that owe nothing have the same print.
-            let mut prints = Vec::new(alloc);
-            prints.resize(*count - from, 0)?;
-            Ok(prints)
-        })
-    }
-
-    /// Such numbers, in which the order of the first debts of each row counts too, of so many at most.
-    pub(crate) fn front_prints(
+    /// A number for what each row from `from` on owes, in which the order of its first debts counts too, of so many at most. Rows that owe the same have the
+    /// same number, and others hardly ever, but where they owe the same in another order after these.
+    pub(crate) fn prints(
         &self,
         alloc: Global,
         from: usize,
@@ -275,7 +263,12 @@ impl Dues {
         requires { from ≤ length self.now }
         ensures { IfOk result (λ prints. ArePrints self.now from prints.items) }
     {
-        rows!(&self.rows, accounts => Ok(accounts.front_prints(alloc, from, most)?), _ => self.prints(alloc, from))
+        rows!(&self.rows, accounts => Ok(accounts.prints(alloc, from, most)?), count => {
+            // Rows that owe nothing have the same print.
+            let mut prints = Vec::new(alloc);
+            prints.resize(*count - from, 0)?;
+            Ok(prints)
+        })
     }
 
     /// Puts the number of the message of each debt of the row after those in the vector. On an error the vector is as before.

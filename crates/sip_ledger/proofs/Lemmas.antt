@@ -10,5 +10,5 @@ pub use Rattle.sip_ledger.proofs.gains.LeftLemmas.{entries_long, gains-dropped, 
 pub use Rattle.sip_ledger.proofs.gains.QueueLemmas.{IsGathered, IsSettled, queue-under, queues-changed, queues-inserted, queues-later, queues-none, stands-more, stands-there}
 pub use Rattle.sip_ledger.proofs.lists.EachLemmas.{changing, changing-more, IsKeptTo, kept-all, kept-more, rise-above, rise-few, on_ok}
 pub use Rattle.sip_ledger.proofs.rows.PaidLemmas.{account-there, ArePaidTo, gained-grown, gained-more, gained-over, HaveGained, IsExpiring, none-past, paid-grown, paid-next}
-pub use Rattle.sip_ledger.proofs.rows.SeenLemmas.{account-at, AreNamedTo, changed-by, on-error, over-to, owes-nothing, eased-account, softened-account, spanned, unchanged}
+pub use Rattle.sip_ledger.proofs.rows.SeenLemmas.{account-at, AreNamedTo, changed, on-error, over-to, owes-nothing, eased-account, softened-account, spanned, unchanged}
 pub use Rattle.sip_ledger.proofs.strikes.MovedLemmas.{alone-more, alone-none, alone-on, appended-fewer, appended-more, cleared-dropped, cleared-more, kept-less, longer_too, more_too, moved-more, none-struck, strikes-none, written-more, written-none}

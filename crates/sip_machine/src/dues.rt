@@ -74,8 +74,7 @@ impl Dues {
         rows!(&self.rows, accounts => Some(&**accounts), _ => None)
     }
 
-    /// The message of the row's first debt that a send of one of these messages pays at the moment, if there is one. These messages are all that
-    /// have something in common, and so the first of them is the key under which they are asked for again.
+    /// The message of the row's first debt that a send of one of these messages pays at the moment, if there is one.
     pub(crate) fn first_payable(
         &mut self,
         row: usize,
@@ -86,8 +85,7 @@ impl Dues {
         ensures same { self.new ≡ self.old }
         ensures first { IfOk result (IsFirstPaid (PaysSome (numbers_of messages.now) moment) moment (owed_in self.old row)) }
     {
-        let key = messages.next_in_both(messages, 0).unwrap_or(0);
-        rows!(&mut self.rows, accounts => accounts.first_payable(row, key, messages, moment), _ => Ok(None))
+        rows!(&mut self.rows, accounts => accounts.first_payable(row, messages, moment), _ => Ok(None))
     }
 
     /// How many rows there are.

@@ -369,13 +369,16 @@ fn step_with_past(rt: &impl Abort, chance: &mut Chance, played: &mut Played) -> 
 }
 
 /// Twelve seeds, of which every second one has deadlines that rise with the clock. Before them two rows gain a debt, the second after all that it owes,
-/// while the first gains it at an earlier place.
+/// while the first gains it at an earlier place. Once the second has paid the others, both owe the same by other places.
 #[test]
 fn accounts_owe_what_plain_lists_have(rt: HostRuntime) -> Done {
     let mut played = Played::new(&rt, 2)?;
     played.gain_and_expire(&rt, 1, owed(1, 10, true), 0)?;
     played.gain_and_expire(&rt, 1, owed(2, 10, true), 0)?;
     played.gain_each(0, owed(1, 10, true))?;
+    played.agree(&rt)?;
+    played.pay_and_expire(&rt, 1, 1, 10)?;
+    played.pay_and_expire(&rt, 1, 2, 10)?;
     played.agree(&rt)?;
     for seed in 0..12 {
         let (mut chance, mut played) = (Chance(seed), Played::new(&rt, 1)?);

@@ -100,15 +100,7 @@ module _ (old : Sets) (to : List ℕ) (number : ℕ) (is_there : Bool) (there : 
       ((text : List ℕ) → lookup (is_at (text_cmp text)) new.entries ≡ cond (is_at (text_cmp to) text) (Some set) (lookup (is_at (text_cmp text)) old.entries)) →
       ((n : ℕ) → numbers_of set n ≡ cond (n == number) is_there (is_in there n)) → IsChanged to number is_there old new
   unfolding stands
-  set-changed new set each has text n = ap (λ found. is_in found n) (each text) ∙ by (is_at (text_cmp to) text) refl
-    where
-      was : Option (List Word)
-      was = lookup (is_at (text_cmp text)) old.entries
-
-      -- b is whether the text is the To
-      by : (b : Bool) → is_at (text_cmp to) text ≡ b → is_in (cond b (Some set) was) n ≡ cond (b && n == number) is_there (is_in was n)
-      by true same = has n ∙ ap (λ found. cond (n == number) is_there (is_in found n)) (is ∙ ap (λ its. lookup (is_at (text_cmp its)) old.entries) (tied-same to text same))
-      by false other = refl
+  set-changed new set each has text n = grind (arith, nat_tests, each text, has n, is, tied-same to text)
 
 -- where the number of the message of a To is put under it, which comes after the others, or is taken from the last To, all stand under their Tos as before
 pub under-changed : (to : To) (is_put : Bool) (old new : Sets) (front : List To) → IsChanged to.text to.number is_put old new → (is_put ≡ false → All (λ t. below t to) front) →

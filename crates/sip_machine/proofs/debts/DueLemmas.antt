@@ -1,7 +1,7 @@
 -- What many states owe: what a send takes out of the debts of one state, and states that owe nothing.
 use Prim.Native.Nat.{suc, zero}
 use Rattle.std.proofs.lemmas.List.{set-set}
-use Rattle.sip_machine.proofs.Words.{take_min, take-replicate, length-replicate, ◌≤◌, ◌≡◌, ◌<◌, ◌||◌, ℕ, Bool, true, false, IsTrue, List, [], ◌∷◌, ◌++◌, All, filter, length, min, set, take, list_any, refl, sym, ◌∙◌, ap, ap₂, arith, cond, true≢false, list_any_at, All-nil, All-cons, filter-append, get_or-set_same, set-get_or, Debt, counts_at, is_payable, paid_by, IsWithoutFirst, owed_in, blank_rows}
+use Rattle.sip_machine.proofs.Words.{nat_tests, take_all, take-replicate, length-replicate, ◌≤◌, ◌≡◌, ◌<◌, ◌||◌, ℕ, Bool, true, false, IsTrue, List, [], ◌∷◌, ◌++◌, All, filter, length, min, set, take, list_any, refl, sym, ◌∙◌, ap, ap₂, arith, cond, true≢false, list_any_at, All-nil, All-cons, filter-append, get_or-set_same, set-get_or, Debt, counts_at, is_payable, paid_by, IsWithoutFirst, owed_in, blank_rows}
 
 -- What follows is of a send of one message at the moment t, which can pay one of the debts, or none.
 module _ (message t : ℕ) where
@@ -16,8 +16,8 @@ module _ (message t : ℕ) where
       record { before = []; first = debt; after = debts; whole = refl; holds = is; none_before = All-nil (λ x. ¬ (Pays x)); rest = ap (λ b. cond b debts (debt ∷ paid_by message t debts)) is }
   some-step debt debts false is any more =
       let a = more any in
+      -- the debt stands before the first that is paid, and else all is as in the list after it
       record {
-        -- the debt stands before the first that is paid, and else all is as in the list after it
         before = debt ∷ a.before;
         first = a.first;
         after = a.after;
@@ -55,10 +55,7 @@ set_none count row debts is = sym (set-get_or (blank_rows count) row []) ∙ ap 
 
 -- without accounts, the first n rows owe nothing
 pub take_none : (count n : ℕ) → blank_rows (min count n) ≡ take n (blank_rows count)
-take_none count n =
-    let same : min count n ≡ min n (length (blank_rows count)) = omega (arith, length-replicate {A = List Debt} count []) in
-    let fits : min count n ≤ count = omega arith in
-    sym (take-replicate (min count n) count [] fits) ∙ ap (λ m. take m (blank_rows count)) same ∙ take_min n (blank_rows count)
+take_none count n = grind (arith, nat_tests, take-replicate, take_all, length-replicate)
 
 -- a row that is changed and then changed again is as if it was changed once, to what the second change makes of the first
 pub set_again : (rows : List (List Debt)) (row : ℕ) (debts : List Debt) (f : List Debt → List Debt) → row < length rows →

@@ -1,5 +1,5 @@
 -- Lists of states that cover what holds of some states, where one may be covered more than once.
-use Rattle.sip_machine.proofs.Words.{take-take, take-append-drop, ◌≡◌, ◌≤◌, ◌<◌, ◌+◌, ◌-◌, ◌↔◌, ◌⊎◌, ℕ, Bool, true, false, Option, Some, None, List, [], ◌∷◌, ◌++◌, All, drop, filter, get_or, length, map, option_to_list, take, inl, inr, refl, sym, ◌∙◌, ap, subst, cond, arith, append-nil, append_assoc, nat_tests, get_or-drop, get_or-take, get_or_append_left, length-drop, length-take-le, map-append, take-append-le, All-append, All-drop, All-get_or, All-head, All-nil, All-tail, All-take, Contains-append_cases, Contains-append_left, Contains-append_right, from_to, Texts, Covers, FromSome, Knows, StandFor, AnswersOne}
+use Rattle.sip_machine.proofs.Words.{take-take, take-append-drop, ◌≡◌, ◌≤◌, ◌<◌, ◌-◌, ◌↔◌, ◌⊎◌, ℕ, Bool, Option, Some, None, List, [], ◌∷◌, ◌++◌, All, drop, filter, get_or, length, map, option_to_list, take, inl, inr, refl, sym, ◌∙◌, ap, subst, cond, arith, append-nil, append_assoc, nat_tests, get_or-drop, get_or-take, get_or_append_left, length-drop, length-take-le, map-append, take-append-le, All-append, All-drop, All-get_or, All-head, All-nil, All-tail, All-take, Contains-append_cases, Contains-append_left, Contains-append_right, from_to, Texts, Covers, FromSome, Knows, StandFor, AnswersOne}
 use Rattle.sip_machine.proofs.pools.PoolLemmas.{front-again, take-old}
 use Rattle.sip_machine.proofs.texts.TextLaws.{Contains-nil}
 use Rattle.sip_machine.proofs.steps.SingleLemmas.{StandFor-one}
@@ -65,11 +65,6 @@ module _ {X S : Type 0} (names : S → List ℕ) (InRange : S → Type 0) (seen 
   Covers-one P None none = Covers-none P none
   Covers-one P (Some s) one = Covers-stood P (s ∷ []) (StandFor-one names InRange seen texts P s one)
 
-  -- to map a list, before which x stands if b is true, is to map the list and put the answer g x, if b is true, before it
-  map-passing : (b : Bool) (g : S → S) (x : S) (xs : List S) → map g (cond b (x ∷ xs) xs) ≡ option_to_list (cond b (Some (g x)) None) ++ map g xs
-  map-passing true g x xs = refl
-  map-passing false g x xs = refl
-
   -- where each state that passes the test, changed by g, answers what leads from it, those that pass, changed by g, cover what leads from all
   pub answers-cover : (P : S → X → Type 0) (test : S → Bool) (g : S → S) (xs : List S) →
       All (λ x. AnswersOne names InRange seen texts (P x) (cond (test x) (Some (g x)) None)) xs → Cover (FromSome P xs) (map g (filter test xs))
@@ -78,7 +73,8 @@ module _ {X S : Type 0} (names : S → List ℕ) (InRange : S → Type 0) (seen 
       -- the first state gives its answer, if it passes, and the others cover what leads from them
       let here = All-head (λ x. AnswersOne names InRange seen texts (P x) (cond (test x) (Some (g x)) None)) x xs all in
       let more = answers-cover P test g xs (All-tail (λ x. AnswersOne names InRange seen texts (P x) (cond (test x) (Some (g x)) None)) x xs all) in
-      subst (Cover (FromSome P (x ∷ xs))) (sym (map-passing (test x) g x (filter test xs)))
+      let is : map g (filter test (x ∷ xs)) ≡ option_to_list (cond (test x) (Some (g x)) None) ++ map g (filter test xs) = grind (arith, nat_tests) in
+      subst (Cover (FromSome P (x ∷ xs))) (sym is)
       (Covers-both (P x) (FromSome P xs) (option_to_list (cond (test x) (Some (g x)) None)) (map g (filter test xs)) (Covers-one (P x) (cond (test x) (Some (g x)) None) here) more)
 
 -- What follows is of the states of a pool, after which others were found.

@@ -80,12 +80,6 @@ left-over R f tos left numbers kept passes = λ k d low.
     let (_, (j, within, is)) = get_or_picked kept.0 tos k d (rw kept.4 at low) in
     (rw (kept.4, is) (All-contains_itself tos j d within), All-from_retain R (λ to. Contains numbers to.number) f passes tos left kept k d low)
 
--- where all sets are as before, the numbers that stand under Tos are
-pub under-same : (old new : Sets) (tos : List To) → new.entries ≡ old.entries → AreUnder tos old → AreUnder tos new
-unfolding stands
-under-same old new tos same under to =
-    subst (λ there. (there ≡ true) ↔ Contains tos to) (ap (λ es. is_in (lookup (is_at (text_cmp to.text)) es) to.number) (sym same)) (under to)
-
 -- whether a To is this one: by its text, and by the number of its message
 is-to : (to its : To) → Decides (is_at (text_cmp to.text) its.text && its.number == to.number) (to ≡ its)
 is-to to its = (
@@ -93,14 +87,13 @@ is-to to its = (
   λ same. subst (λ t. (is_at (text_cmp to.text) t.text && t.number == to.number) ≡ true) same (rw (tied_itself text_cmp-total to.text) (grind (arith, nat_tests))),
 )
 
--- What follows is of sets in which `there` is what stands under a To, if a set does, and of one number there.
-module _ (old : Sets) (to : List ℕ) (number : ℕ) (is_there : Bool) (there : Option (List Word)) (is : there ≡ lookup (is_at (text_cmp to)) old.entries) where
-  -- where another set stands there now, which has the number just if `is_there`, and others as before, that number alone is changed
-  pub set-changed : (new : Sets) (set : List Word) →
-      ((text : List ℕ) → lookup (is_at (text_cmp text)) new.entries ≡ cond (is_at (text_cmp to) text) (Some set) (lookup (is_at (text_cmp text)) old.entries)) →
-      ((n : ℕ) → numbers_of set n ≡ cond (n == number) is_there (is_in there n)) → IsChanged to number is_there old new
-  unfolding stands
-  set-changed new set each has text n = grind (arith, nat_tests, each text, has n, is, tied-same to text)
+-- where another set stands under a To now than the one there before, if one was, and it differs in one number alone, which it has just if `is_there`, and others stand
+-- as before, that number alone is changed
+pub set-changed : (old : Sets) (to : List ℕ) (number : ℕ) (is_there : Bool) (there : Option (List Word)) → there ≡ lookup (is_at (text_cmp to)) old.entries → (new : Sets) (set : List Word) →
+    ((text : List ℕ) → lookup (is_at (text_cmp text)) new.entries ≡ cond (is_at (text_cmp to) text) (Some set) (lookup (is_at (text_cmp text)) old.entries)) →
+    ((n : ℕ) → numbers_of set n ≡ cond (n == number) is_there (is_in there n)) → IsChanged to number is_there old new
+unfolding stands
+set-changed old to number is_there there is new set each has text n = grind (arith, nat_tests, each text, has n, is, tied-same to text)
 
 -- where the number of the message of a To is put under it, which comes after the others, or is taken from the last To, all stand under their Tos as before
 pub under-changed : (to : To) (is_put : Bool) (old new : Sets) (front : List To) → IsChanged to.text to.number is_put old new → (is_put ≡ false → All (λ t. below t to) front) →
@@ -121,9 +114,7 @@ under-found sets tos to (Some set) none empty is under number = grind (arith, na
 -- where the values that f gives rise along a list, the list of these values rises
 pub AllPairs-map : {X : Type 0} (f : X → ℕ) (xs : List X) → AllPairs (λ a b. f a < f b) xs → AllPairs (λ a b. a < b) (map f xs)
 AllPairs-map f [] up = λ i j d lt low. absurd (omega arith)
-AllPairs-map f (x ∷ xs) up = λ i j d lt low.
-    let high : j < length (x ∷ xs) = rw length-map at low in
-    rw (get_or-map f (x ∷ xs) i x d (omega (arith, lt, high)), get_or-map f (x ∷ xs) j x d high) (up i j x lt high)
+AllPairs-map f (x ∷ xs) up = λ i j d lt low. grind (arith, up i j x, get_or-map f (x ∷ xs) i x d, get_or-map f (x ∷ xs) j x d, length-map)
 
 -- a number that is one of those of the Tos of a list is that of a To there
 placed : (tos : List To) (n : ℕ) → Contains (map (λ to. to.number) tos) n → (text : List ℕ) × Contains tos (record { number = n; text = text })

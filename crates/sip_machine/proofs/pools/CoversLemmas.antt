@@ -96,8 +96,7 @@ module _ {X S : Type 0} (names : S → List ℕ) (InRange : S → Type 0) (seen 
     -- what was found before and what is found now together cover what leads from all
     found ++ added,
     new_is ∙ ap (λ xs. xs ++ added) mid_is ∙ append_assoc old found added,
-    subst (λ xs. Covers names InRange seen texts (FromSome P xs) (found ++ added)) (sym is)
-        (Covers-same names InRange seen texts (λ y. FromSome P some y ⊎ FromSome P more y) (FromSome P (some ++ more)) (FromSome-append P some more) (found ++ added)
+    rw is (Covers-same names InRange seen texts (λ y. FromSome P some y ⊎ FromSome P more y) (FromSome P (some ++ more)) (FromSome-append P some more) (found ++ added)
         (Covers-both names InRange seen texts (FromSome P some) (FromSome P more) found added covers covers_more)),
   )
 

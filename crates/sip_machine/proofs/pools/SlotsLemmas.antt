@@ -1,5 +1,5 @@
 -- Prints by slots: how the newest print of each slot, and beside each print the one before it in its slot, lead to an equal print.
-use Rattle.sip_machine.proofs.Words.{◌≡◌, ◌≢◌, ◌<◌, ◌≤◌, ◌+◌, ◌++◌, ◌∷◌, ◌∙◌, [], ℕ, List, get_or, length, arith, ap, subst, sym, set, nat_tests, get_or-map, length-map, map-append, length-set, length_push, get_or_append_left, get_or_push, get_or-set_same, get_or-set_other, cases_eq, cases_lt, SlotPrint, Slotted, AreSlots, IsNewest, IsReached, slot_of, slotted}
+use Rattle.sip_machine.proofs.Words.{◌≡◌, ◌≢◌, ◌<◌, ◌≤◌, ◌+◌, ◌++◌, ◌∷◌, [], ℕ, List, get_or, length, arith, subst, set, nat_tests, get_or-map, length-map, length-set, length_push, get_or_append_left, get_or_push, get_or-set_same, get_or-set_other, cases_eq, cases_lt, SlotPrint, Slotted, AreSlots, IsNewest, IsReached, slot_of, slotted}
 
 -- the print at a place is that of the pair there, which leads to the newest print of its slot before it
 pub pair-at : (newest : List ℕ) (kept : List SlotPrint) (s : Slotted) (at : ℕ) (x : SlotPrint) → AreSlots (slotted newest kept) → slotted newest kept ≡ s → at < length s.prints →
@@ -26,16 +26,9 @@ newest-other : (slots : ℕ) (prints : List ℕ) (slot newest print : ℕ) → s
 newest-other slots prints slot newest print other is = grind (arith, nat_tests, cases_lt, length_push, get_or_push, get_or_append_left)
 
 -- where a print is put after the others, and its slot leads to it and it to the one before it in the slot, each leads rightly
-slots-grow : (s : Slotted) (print slot newest : ℕ) → AreSlots s → slot ≡ slot_of (length s.newest) print → slot < length s.newest → newest ≡ length s.prints + 1 →
+pub slots-grow : (s : Slotted) (print slot newest : ℕ) → AreSlots s → slot ≡ slot_of (length s.newest) print → slot < length s.newest → newest ≡ length s.prints + 1 →
     AreSlots (record { newest = set s.newest slot newest; prints = s.prints ++ print ∷ []; olders = s.olders ++ get_or s.newest slot 0 ∷ [] })
 slots-grow s print slot newest are is low count = grind (arith, nat_tests, length-set, length_push, cases_eq, get_or-set_same, newest-here, get_or-set_other, newest-other, cases_lt, get_or_append_left, newest-before, get_or_push)
-
--- where a pair for a print is put after the others, and its slot leads to it, the pairs lead rightly
-pub slots-more : (newest : List ℕ) (kept : List SlotPrint) (x : SlotPrint) (slot last : ℕ) → AreSlots (slotted newest kept) → slot ≡ slot_of (length newest) x.print → slot < length newest →
-    x.older ≡ get_or newest slot 0 → last ≡ length kept + 1 → AreSlots (slotted (set newest slot last) (kept ++ x ∷ []))
-slots-more newest kept x slot last are is low older count =
-    rw (map-append (λ y. y.print) kept (x ∷ []), map-append (λ y. y.older) kept (x ∷ []), older)
-    (slots-grow (slotted newest kept) x.print slot last are is low (count ∙ ap (λ n. n + 1) (sym (length-map kept (λ y. y.print)))))
 
 -- where the print that is reached is another one, the one before it in the slot is reached
 pub reached-more : (slots : ℕ) (prints : List ℕ) (print limit next at here older : ℕ) → IsReached slots prints print limit next → next ≡ at + 1 → get_or prints at 0 ≡ here →

@@ -87,8 +87,7 @@ is-to to its = (
   λ same. subst (λ t. (is_at (text_cmp to.text) t.text && t.number == to.number) ≡ true) same (rw (tied_itself text_cmp-total to.text) (grind (arith, nat_tests))),
 )
 
--- where another set stands under a To now than the one there before, if one was, and it differs in one number alone, which it has just if `is_there`, and others stand
--- as before, that number alone is changed
+-- where another set stands under a To now, which differs from the one before, if there was one, in one number alone, that number alone is changed
 pub set-changed : (old : Sets) (to : List ℕ) (number : ℕ) (is_there : Bool) (there : Option (List Word)) → there ≡ lookup (is_at (text_cmp to)) old.entries → (new : Sets) (set : List Word) →
     ((text : List ℕ) → lookup (is_at (text_cmp text)) new.entries ≡ cond (is_at (text_cmp to) text) (Some set) (lookup (is_at (text_cmp text)) old.entries)) →
     ((n : ℕ) → numbers_of set n ≡ cond (n == number) is_there (is_in there n)) → IsChanged to number is_there old new

@@ -1,5 +1,5 @@
 -- Prints by slots: how the newest print of each slot, and beside each print the one before it in its slot, lead to an equal print.
-use Rattle.sip_machine.proofs.Words.{◌≡◌, ◌≢◌, ◌<◌, ◌≤◌, ◌+◌, ◌++◌, ◌∷◌, [], ℕ, List, get_or, length, arith, subst, set, nat_tests, get_or-map, length-map, length-set, length_push, get_or_append_left, get_or_push, get_or-set_same, get_or-set_other, cases_eq, cases_lt, SlotPrint, Slotted, AreSlots, IsNewest, IsReached, slot_of, slotted}
+use Rattle.sip_machine.proofs.Words.{◌≡◌, ◌≢◌, ◌<◌, ◌+◌, ◌++◌, ◌∷◌, [], ℕ, List, get_or, length, arith, subst, set, nat_tests, get_or-map, length-map, length-set, length_push, get_or_append_left, get_or_push, get_or-set_same, get_or-set_other, cases_eq, cases_lt, SlotPrint, Slotted, AreSlots, IsNewest, IsReached, slot_of, slotted}
 
 -- the print at a place is that of the pair there, which leads to the newest print of its slot before it
 pub pair-at : (newest : List ℕ) (kept : List SlotPrint) (s : Slotted) (at : ℕ) (x : SlotPrint) → AreSlots (slotted newest kept) → slotted newest kept ≡ s → at < length s.prints →
@@ -11,24 +11,10 @@ pair-at newest kept s at x are is low here =
 
 -- What follows is of a print that is put under its slot.
 
--- a print after the limit does not change which print before the limit is the newest of its slot
-newest-before : (slots : ℕ) (prints : List ℕ) (slot limit newest print : ℕ) → limit ≤ length prints → IsNewest slots prints slot limit newest →
-    IsNewest slots (prints ++ print ∷ []) slot limit newest
-newest-before slots prints slot limit newest print low is = grind (arith, nat_tests, get_or_append_left)
-
--- a new print is the newest of its slot
-newest-here : (slots : ℕ) (prints : List ℕ) (print : ℕ) → IsNewest slots (prints ++ print ∷ []) (slot_of slots print) (length (prints ++ print ∷ [])) (length prints + 1)
-newest-here slots prints print = grind (arith, nat_tests, length_push, get_or_push)
-
--- a print of another slot changes nothing of the newest one of this slot
-newest-other : (slots : ℕ) (prints : List ℕ) (slot newest print : ℕ) → slot ≢ slot_of slots print → IsNewest slots prints slot (length prints) newest →
-    IsNewest slots (prints ++ print ∷ []) slot (length (prints ++ print ∷ [])) newest
-newest-other slots prints slot newest print other is = grind (arith, nat_tests, cases_lt, length_push, get_or_push, get_or_append_left)
-
 -- where a print is put after the others, and its slot leads to it and it to the one before it in the slot, each leads rightly
 pub slots-grow : (s : Slotted) (print slot newest : ℕ) → AreSlots s → slot ≡ slot_of (length s.newest) print → slot < length s.newest → newest ≡ length s.prints + 1 →
     AreSlots (record { newest = set s.newest slot newest; prints = s.prints ++ print ∷ []; olders = s.olders ++ get_or s.newest slot 0 ∷ [] })
-slots-grow s print slot newest are is low count = grind (arith, nat_tests, length-set, length_push, cases_eq, get_or-set_same, newest-here, get_or-set_other, newest-other, cases_lt, get_or_append_left, newest-before, get_or_push)
+slots-grow s print slot newest are is low count = grind (arith, nat_tests, length-set, length_push, cases_eq, get_or-set_same, get_or-set_other, cases_lt, get_or_append_left, get_or_push)
 
 -- where the print that is reached is another one, the one before it in the slot is reached
 pub reached-more : (slots : ℕ) (prints : List ℕ) (print limit next at here older : ℕ) → IsReached slots prints print limit next → next ≡ at + 1 → get_or prints at 0 ≡ here →

@@ -14,15 +14,10 @@ Gains-one names InRange seen texts P x must message only known kept fits =
       in_range = fits;
     }
 
--- the answer again to a request that comes again is the last response, which must be sent unless it is a 100, as `is` says
-replies-only : {X : Type 0} (x : X) (last : List ℕ) (is : Bool) → IsTrue is ↔ Is100 last → (y : After X) → Replies x last y ↔ (y ≡ (x, gains (not is) last))
-replies-only x last is tells y = grind (arith, nat_tests)
-
 -- where a request comes again, the turn that gains its last response anew is the only one
 pub Replies-one : {S X : Type 0} (names : S → List ℕ) (InRange : S → Type 0) (seen : Texts → S → X) (texts : Texts) (x : S) (last : ℕ) (is : Bool) →
     IsTrue is ↔ Is100 (text_of texts last) → Knows names texts x → Keeps texts last → InRange x →
     IsTheOne (turn_names names) (TurnInRange InRange) (turn_seen seen) texts (Replies (seen texts x) (text_of texts last))
     (record { phase = x; change = code.Gains (not is) last })
 Replies-one names InRange seen texts x last is tells known kept fits =
-    Gains-one names InRange seen texts (Replies (seen texts x) (text_of texts last)) x (not is) last (replies-only (seen texts x) (text_of texts last) is tells)
-    known kept fits
+    Gains-one names InRange seen texts (Replies (seen texts x) (text_of texts last)) x (not is) last (λ y. grind (arith, nat_tests)) known kept fits

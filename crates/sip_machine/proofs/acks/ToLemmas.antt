@@ -69,8 +69,7 @@ AllPairs-picked R [] xs up = λ i j d lt low. absurd (omega arith)
 AllPairs-picked R (b ∷ bs) [] up = λ i j d lt low. absurd (omega arith)
 -- the first element is picked, and R relates it to each later one; or it is left out
 AllPairs-picked R (true ∷ bs) (x ∷ xs) up =
-    let later = AllPairs-head R x xs up in
-    AllPairs-cons R x (items_where_true bs xs) (grind (arith, get_or_picked)) (AllPairs-picked R bs xs (AllPairs-tail R x xs up))
+    AllPairs-cons R x (items_where_true bs xs) (grind (arith, get_or_picked, AllPairs-head R x xs up)) (AllPairs-picked R bs xs (AllPairs-tail R x xs up))
 AllPairs-picked R (false ∷ bs) (x ∷ xs) up = AllPairs-picked R bs xs (AllPairs-tail R x xs up)
 
 -- where a test passes only Tos of these numbers, each that it leaves was there, and has one of the numbers

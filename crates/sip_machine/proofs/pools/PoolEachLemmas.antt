@@ -1,5 +1,5 @@
 -- The states of a pool, many of which take the same step.
-use Rattle.sip_machine.proofs.Words.{nat_tests, ◌≡◌, ◌<◌, ◌≤◌, ◌+◌, ℕ, Bool, List, [], ◌∷◌, ◌++◌, All, drop, filter, get_or, length, map, replicate, take, refl, sym, ◌∙◌, ap, ap₂, arith, drop-append-le, drop-map, length-drop, length-map, length-take-le, All-get_or, take-map, take_more, All-filter, All-head, All-push, All-tail, Debt, from_to, CodeOwing, filter-map, owed_in, picked, beside}
+use Rattle.sip_machine.proofs.Words.{nat_tests, ◌≡◌, ◌<◌, ◌≤◌, ◌+◌, ℕ, Bool, List, [], ◌∷◌, ◌++◌, All, drop, filter, get_or, length, map, replicate, take, refl, sym, ◌∙◌, ap, ap₂, arith, drop-append-le, drop-map, length-drop, length-map, length-take-le, All-get_or, take-map, take_more, All-filter, All-tail, Debt, from_to, CodeOwing, filter-map, owed_in, picked, beside}
 use Rattle.sip_machine.proofs.pools.PoolLemmas.{beside-append, beside-at, owes-beside}
 use Rattle.sip_machine.proofs.pools.CoversLemmas.{slice-get}
 
@@ -10,10 +10,6 @@ module _ {X : Type 0} where
   from_to-more from k xs d le low =
       let size = length-take-le k xs (omega (arith, low)) in
       ap (drop from) (take_more xs k d low) ∙ drop-append-le from (take k xs) (get_or xs k d ∷ []) (omega (arith, le, size))
-
-  -- what holds up to a place, and of the element there, holds up to one place further
-  pub some-more : (P : X → Type 0) (at k : ℕ) (xs : List X) (d : X) → at ≤ k → k < length xs → All P (from_to at k xs) → P (get_or xs k d) → All P (from_to at (k + 1) xs)
-  some-more P at k xs d le low all p = rw (from_to-more at k xs d le low) (All-push P (from_to at k xs) (get_or xs k d) all p)
 
   -- what holds of all elements from one index up to another holds of the element at an index between
   pub some-at : (P : X → Type 0) (from to k : ℕ) (xs : List X) (d : X) → to ≤ length xs → from ≤ k → k < to → All P (from_to from to xs) → P (get_or xs k d)
@@ -26,7 +22,7 @@ module _ {S : Type 0} where
       beside (replicate (length xs) q) (map g (map (λ x. x.owes) xs)) ≡ map h xs
   beside-each q g h [] same = refl
   beside-each q g h (x ∷ xs) same =
-      ap₂ (λ y ys. y ∷ ys) (All-head (λ x. record { phase = q; owes = g x.owes } ≡ h x) x xs same) (beside-each q g h xs (All-tail (λ x. record { phase = q; owes = g x.owes } ≡ h x) x xs same))
+      ap₂ (λ y ys. y ∷ ys) (same 0 x (omega arith)) (beside-each q g h xs (All-tail (λ x. record { phase = q; owes = g x.owes } ≡ h x) x xs same))
 
   -- where copies of some rows come after the others, each changed by g, and the phase q for each, the states are the old ones and those that h gives
   pub pushed-is : (q : S) (g : List Debt → List Debt) (h : CodeOwing S → CodeOwing S) (p : List Debt → Bool) (phases : List S) (rows : List (List Debt)) (xs : List (CodeOwing S)) (from to n : ℕ) →
@@ -50,5 +46,4 @@ module _ {S : Type 0} where
       beside (picked phases x.phase kept) (map (owed_in rows) kept) ≡ picked (beside phases rows) x kept
   beside-picked phases rows [] x within = refl
   beside-picked phases rows (row ∷ kept) x within =
-      ap₂ (λ y ys. y ∷ ys) (sym (beside-at phases rows row x.phase x (All-head (λ row. row < length phases) row kept within)))
-      (beside-picked phases rows kept x (All-tail (λ row. row < length phases) row kept within))
+      ap₂ (λ y ys. y ∷ ys) (sym (beside-at phases rows row x.phase x (within 0 row (omega arith)))) (beside-picked phases rows kept x (All-tail (λ row. row < length phases) row kept within))

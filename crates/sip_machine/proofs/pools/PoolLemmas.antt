@@ -98,11 +98,10 @@ module _ {S : Type 0} where
 
 -- What follows is of lists that grow at their end.
 module _ {X : Type 0} where
-  -- the element at k of a list that has one
+  -- an element of a list that has one at k
   pub some-at : (xs : List X) (k : ℕ) → k < length xs → X
   some-at [] k low = absurd (omega (arith, low))
-  some-at (x ∷ xs) zero low = x
-  some-at (x ∷ xs) (suc k) low = some-at xs k (omega (arith, low))
+  some-at (x ∷ xs) k low = x
 
   -- a list that begins with the old elements is at least as long
   pub not-shorter : (old new : List X) → take (length old) new ≡ old → length old ≤ length new

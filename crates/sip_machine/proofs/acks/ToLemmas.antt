@@ -31,21 +31,23 @@ moved_to texts more to kept same is = record { kept = kept; text = subst (λ byt
 
 -- where a message is added to the book, the Tos stay those of kept messages
 pub AreTos-grow : (texts : Texts) (entry : ℕ) (bytes : List ℕ) (tos : List To) → AreTos texts tos → AreTos (texts ++ (entry, bytes) ∷ []) tos
-AreTos-grow texts entry bytes tos all = λ k d low.
-    let is = all k d low in
-    moved_to texts _ (get_or tos k d) (Keeps-grow texts entry bytes _ is.kept) (text_of-grow texts entry bytes _ is.kept) is
+AreTos-grow texts entry bytes tos all = record {
+  each = All-weaker (IsTo texts) (IsTo (texts ++ (entry, bytes) ∷ [])) (λ to is. moved_to texts _ to (Keeps-grow texts entry bytes _ is.kept) (text_of-grow texts entry bytes _ is.kept) is) tos all.each;
+}
 
 -- Tos that are some of those of kept messages are those of kept messages
 pub AreTos-some : (texts : Texts) (tos new : List To) → AreTos texts tos → All (Contains tos) new → AreTos texts new
-AreTos-some texts tos new all some = All-weaker (Contains tos) (IsTo texts) (λ to has. All-contains (IsTo texts) tos to all has) new some
+AreTos-some texts tos new all some = record { each = All-weaker (Contains tos) (IsTo texts) (λ to has. All-contains (IsTo texts) tos to all.each has) new some }
 
 -- where the book keeps the messages of some numbers alone, the Tos of these stay those of kept messages
 pub AreTos-only : (texts : Texts) (numbers : List ℕ) → IsBook texts → AllPairs (λ a b. a < b) numbers → All (Keeps texts) numbers → (tos new : List To)
     → AreTos texts tos → All (λ to. Contains tos to × Contains numbers to.number) new → AreTos (only numbers texts) new
-AreTos-only texts numbers book up kept tos new all left = λ k d low.
-    let (has, stays) = left k d low in
-    moved_to texts (only numbers texts) (get_or new k d) (only-Keeps texts numbers book up kept _ stays) (text_of-only texts numbers book up kept _ stays)
-    (All-contains (IsTo texts) tos _ all has)
+AreTos-only texts numbers book up kept tos new all left = record {
+  each = λ k d low.
+      let (has, stays) = left k d low in
+      moved_to texts (only numbers texts) (get_or new k d) (only-Keeps texts numbers book up kept _ stays) (text_of-only texts numbers book up kept _ stays)
+      (All-contains (IsTo texts) tos _ all.each has);
+}
 
 -- the order of Tos: by the numbers of their messages
 abbrev pub below : To → To → Type 0
@@ -93,13 +95,13 @@ pub set-changed : (old : Sets) (to : List ℕ) (number : ℕ) (is_there : Bool) 
 unfolding stands
 set-changed old to number is_there there is new set each has text n = grind (arith, nat_tests, each text, has n, is, tied-same to text)
 
--- where the number of the message of a To is put under it, which comes after the others, or is taken from the last To, all stand under their Tos as before
-pub under-changed : (to : To) (is_put : Bool) (old new : Sets) (front : List To) → IsChanged to.text to.number is_put old new → (is_put ≡ false → All (λ t. below t to) front) →
-    AreUnder (cond is_put front (front ++ to ∷ [])) old → AreUnder (cond is_put (front ++ to ∷ []) front) new
-under-changed to true old new front changed lower under its =
-    grind (arith, nat_tests, changed its.text its.number, under its, is-to to its, Contains-push front to, Contains-push_cases front to its, Contains-append_left front (to ∷ []) its)
-under-changed to false old new front changed lower under its =
-    grind (arith, nat_tests, changed its.text its.number, under its, is-to to its, Contains-push_cases front to its, Contains-append_left front (to ∷ []) its, All-contains (λ t. below t to) front its (lower refl))
+-- where the number of a message is put under its To, which then stands after the others, or is taken from the last To, each number stands under its To
+pub under-changed : (to : To) (is_put : Bool) (old new : Sets) (tos : List To) → IsChanged to.text to.number is_put old new → (is_put ≡ false → All (λ t. below t to) tos) →
+    AreUnder (cond is_put tos (tos ++ to ∷ [])) old → AreUnder (cond is_put (tos ++ to ∷ []) tos) new
+under-changed to true old new tos changed lower under its =
+    grind (arith, nat_tests, changed its.text its.number, under its, is-to to its, Contains-push tos to, Contains-push_cases tos to its, Contains-append_left tos (to ∷ []) its)
+under-changed to false old new tos changed lower under its =
+    grind (arith, nat_tests, changed its.text its.number, under its, is-to to its, Contains-push_cases tos to its, Contains-append_left tos (to ∷ []) its, All-contains (λ t. below t to) tos its (lower refl))
 
 -- the set that is found under a To has the numbers of the messages of the list with this To; `none` is told where none is found
 pub under-found : (sets : Sets) (tos : List To) (to : List ℕ) (found : Option (Bor (List Word))) (none : Bor (List Word)) → ((n : ℕ) → numbers_of none.now n ≡ false) →
@@ -127,17 +129,17 @@ pub has-those : (texts : Texts) (tos : List To) (low high : ℕ) → IsBook text
     count_between low high (map (λ k. k.0) texts) ≡ count_between low high (map (λ to. to.number) tos) → (to : List ℕ) (set : List Word) →
     ((number : ℕ) → (numbers_of set number ≡ true) ↔ Contains tos (record { number = number; text = to })) → HasThose texts low high to set
 has-those texts tos low high book are up as_many to set all = λ number kept from to_high. (
-  λ has. (All-contains (IsTo texts) tos _ are ((all number).0 has)).text,
+  λ has. (All-contains (IsTo texts) tos _ are.each ((all number).0 has)).text,
   λ is.
       let kept_numbers = map (λ k. k.0) texts in
       let numbers = map (λ to. to.number) tos in
       -- there are as many Tos as messages between the two numbers, and each To is that of a kept message; so each message has one
       let le : low ≤ high = omega (arith, from, to_high) in
       let as_few : many low high kept_numbers ≤ many low high numbers = omega (arith, as_many, count_between-is low high kept_numbers le, count_between-is low high numbers le) in
-      let its_kept : (n : ℕ) → Contains numbers n → Keeps texts n = λ n has. (All-contains (IsTo texts) tos _ are (placed tos n has).1).kept in
+      let its_kept : (n : ℕ) → Contains numbers n → Keeps texts n = λ n has. (All-contains (IsTo texts) tos _ are.each (placed tos n has).1).kept in
       let (text, there) = placed tos number (among-all low high kept_numbers numbers (AllPairs-map (λ k. k.0) texts book.rising) (AllPairs-map (λ to. to.number) tos up)
       its_kept as_few number kept from to_high) in
       -- the To that stands there is the message's one To
-      let same = IsToOf-one (text_of texts number) to text (All-contains (IsTo texts) tos _ are there).text is in
+      let same = IsToOf-one (text_of texts number) to text (All-contains (IsTo texts) tos _ are.each there).text is in
       (all number).1 (subst (λ text. Contains tos (record { number = number; text = text })) same there),
 )

@@ -82,15 +82,17 @@ module _ (texts : Texts) (number : ℕ) (bytes : List ℕ) (book : IsBook (texts
 
   -- the Tos of messages before the newest are those of the book without it
   pub AreTos-front : (tos : List To) → All (λ to. to.number < number) tos → AreTos grown tos → AreTos texts tos
-  AreTos-front tos below all = λ k d low.
-      -- the number of each To is below that of the newest message, so the To is one of another message
-      let to = get_or tos k d in
-      let is = all k d low in
-      let under = below k d low in
-      elim (Keeps-grow_cases texts number bytes to.number is.kept) [
-        | inl keeps ↦ moved_to grown texts to keeps (sym (text_of-grow texts number bytes to.number keeps)) is
-        | inr same ↦ absurd (omega (arith, under, same))
-      ]
+  AreTos-front tos below all = record {
+    each = λ k d low.
+        -- the number of each To is below that of the newest message, so the To is one of another message
+        let to = get_or tos k d in
+        let is = all.each k d low in
+        let under = below k d low in
+        elim (Keeps-grow_cases texts number bytes to.number is.kept) [
+          | inl keeps ↦ moved_to grown texts to keeps (sym (text_of-grow texts number bytes to.number keeps)) is
+          | inr same ↦ absurd (omega (arith, under, same))
+        ];
+  }
 
 -- What follows is of the place of the newest message among those of the others.
 

@@ -25,8 +25,8 @@ pub record IsTo (texts : Texts) (to : To) : Type 0 where
   pub text : IsToOf (text_of texts to.number) to.text
 
 -- each To of the list is that of a message that the book keeps
-abbrev pub AreTos : Texts → List To → Type 0
-AreTos texts tos = All (IsTo texts) tos
+pub record AreTos (texts : Texts) (tos : List To) : Type 0 where
+  pub each : All (IsTo texts) tos
 
 -- how many of the numbers are from low up to high: those up to high without those below low
 abbrev pub count_between : ℕ → ℕ → List ℕ → ℕ

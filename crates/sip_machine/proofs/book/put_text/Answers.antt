@@ -8,5 +8,5 @@ use Rattle.sip_machine.proofs.book.put_text.Goals as goal
 pub returns : goal.returns
 returns c texts is are =
     by_result c.push.result c.push.ensures.ok c.push.ensures.err
-    (λ more. rw more (All-push (IsTo texts) c.args.tos.now (record { number = c.args.number; text = c.args.text }) are is))
+    (λ more. record { each = rw more (All-push (IsTo texts) c.args.tos.now (record { number = c.args.number; text = c.args.text }) are.each is) })
     (λ same. subst (AreTos texts) (sym same) are)

@@ -15,7 +15,7 @@ loop-at-preserved c =
       | in-Some+in_ok-copy-in-Some+in_ok-put_text-in-Some w ↦
           let to : To = record { number = c.index-kept-at.result.number; text = w.in_ok-copy-in-Some.field-0 } in
           let has : Contains c.args.beside.now to = subst (λ text. Contains c.args.beside.now (record { number = c.index-kept-at.result.number; text = text })) (sym w.in_ok-copy-in-Some.ensures) w.in-Some.ensures in
-          subst (AreTos texts) (sym w.tos-is) (w.put_text.ensures texts (All-contains (IsTo texts) c.args.beside.now to c.requires.beside has) c.loop-at.invariant)
+          subst (AreTos texts) (sym w.tos-is) (w.put_text.ensures texts (All-contains (IsTo texts) c.args.beside.now to c.requires.beside.each has) c.loop-at.invariant)
       | in-None+in_ok-put_read_to-in-None w ↦
           let here = text_of-kept (λ k. (k.number, k.bytes.items)) c.args.kept.now c.loop-at.at c.index-kept-at.result c.requires.book.rising (omega arith) c.index-kept-at.is in
           subst (AreTos texts) (sym w.tos-is) (w.put_read_to.ensures texts here.0 (here.1 ∙ sym w.as_slice.ensures.value) c.loop-at.invariant)

@@ -16,7 +16,7 @@ returns-clause-ok g c =
     -- the rows that can pay and are in time are pushed, with the message paid
     let can : List Debt → Bool = λ owes. list_any (is_payable message t) owes && is_timely t owes in
     let pays : List Debt → List Debt = λ owes. filter (counts_at t) (paid_by message t owes) in
-    let count = ap length c.in_ok-push_paid.ensures.ok ∙ length-append rows (map pays (filter can (from_to c.args.from c.args.to rows))) in
+    let count = c.len.ensures ∙ ap length c.in_ok-push_paid.ensures.ok ∙ length-append rows (map pays (filter can (from_to c.args.from c.args.to rows))) in
     let phases_is = on_ok c.push_phases.result _ (rw c.is_err.ensures.value at c.if-is_err.false) c.push_phases.ensures.ok in
     -- all states of the run have its phase, and the new ones are the old ones with the message paid; `Denot` is the type of the phases as clauses see them
     let phase = phase-at _ _ xs c.args.from q d c.self.view_is c.requires.from c.index-phase.ensures in
@@ -24,4 +24,4 @@ returns-clause-ok g c =
     = All-weaker (λ x. x.phase ≡ (get_or xs c.args.from d).phase) (λ x. record { phase = q; owes = pays x.owes } ≡ repaid_at t message x)
     (λ x same. ap (λ p. record { phase = p; owes = pays x.owes }) (sym phase ∙ sym same)) (from_to c.args.from c.args.to xs) (c.requires.same d) in
     ap₂ beside phases_is c.in_ok-push_paid.ensures.ok
-    ∙ pushed-is q pays (repaid_at t message) can c.self.inside.phases.items rows xs c.args.from c.args.to _ c.self.view_is c.self.invariant (omega (arith, count, c.len.ensures, c.len-before.ensures)) each
+    ∙ pushed-is q pays (repaid_at t message) can c.self.inside.phases.items rows xs c.args.from c.args.to _ c.self.view_is c.self.invariant (omega (arith, count, c.len-before.ensures)) each

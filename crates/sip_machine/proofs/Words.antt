@@ -1,13 +1,12 @@
 -- The names that proofs cite, passed on from one place. Declares nothing.
 pub use Rattle.std.proofs.Common.{ap, append-nil, append_assoc, ap₂, arith, inl, inr, length-append, nat_le, nat_lt, refl, rules, subst, sym, true≢false, ◌∙◌}
-pub use Rattle.std.proofs.Math.Bool.{and-false}
 pub use Rattle.std.proofs.Math.Seq.{drop-append_seam, get_or-append_seam, take-append_seam}
 pub use Rattle.std.proofs.lemmas.Bool.{cases_eq, cases_lt, ne_eqb}
 pub use Rattle.std.proofs.lemmas.Bool.Decides.{nat_tests}
 pub use Rattle.std.proofs.lemmas.Cmp.{ranked}
 pub use Rattle.std.proofs.lemmas.Fn.{All-from_retain, always_returns_same}
 pub use Rattle.std.proofs.lemmas.Grind.{get_or_picked}
-pub use Rattle.std.proofs.lemmas.List.{drop-append-le, drop-map, drop-replicate, drop_all, get_or-drop, get_or-map, get_or-set_other, get_or-set_same, get_or-take, get_or_append_left, get_or_default, get_or_push, length-drop, length-map, length-replicate, length-set, length-take, length-take-le, length_push, map-append, replicate-append-replicate, set-get_or, set_at, set_split, take-append-drop, take-append-le, take-map, take-replicate, take-take, take_all, take_at, take_min, take_more, take_rest, with_items_is}
+pub use Rattle.std.proofs.lemmas.List.{drop-append-le, drop-map, drop-replicate, drop_all, get_or-drop, get_or-map, get_or-set_other, get_or-set_same, get_or-take, get_or_append_left, get_or_default, get_or_push, length-drop, length-map, length-replicate, length-set, length-take, length-take-le, length_push, map-append, replicate-append-replicate, set-get_or, set_at, set_split, take-append-drop, take-append-le, take-map, take-replicate, take-take, take_all, take_at, take_more, take_rest, with_items_is}
 pub use Rattle.std.proofs.lemmas.List.Elements.{All-append, All-cons, All-contains, All-contains_itself, All-drop, All-filter, All-get_or, All-head, All-nil, All-push, All-replicate, All-tail, All-take, All-weaker, Contains-append_cases, Contains-append_left, Contains-append_right, Contains-push, Contains-push_cases, filter-append}
 pub use Rattle.std.proofs.lemmas.List.Folds.{list_any_at, map_fixed}
 pub use Rattle.std.proofs.lemmas.List.Kept.{AllPairs-cons}

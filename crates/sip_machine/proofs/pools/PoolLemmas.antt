@@ -38,9 +38,8 @@ module _ {S : Type 0} where
 
   -- the phases without the first n beside the rows without the first n are the states without the first n
   pub beside-drop : (phases : List S) (rows : List (List Debt)) (n : ℕ) → length rows ≡ length phases → beside (drop n phases) (drop n rows) ≡ drop n (beside phases rows)
-  beside-drop [] [] zero long = refl
-  beside-drop [] [] (suc n) long = refl
-  beside-drop [] (r ∷ rows) n long = absurd (omega (arith, long))
+  beside-drop [] rows zero long = refl
+  beside-drop [] rows (suc n) long = refl
   beside-drop (p ∷ phases) [] n long = absurd (omega (arith, long))
   beside-drop (p ∷ phases) (r ∷ rows) zero long = refl
   beside-drop (p ∷ phases) (r ∷ rows) (suc n) long = beside-drop phases rows n (omega (arith, long))
@@ -48,8 +47,7 @@ module _ {S : Type 0} where
   -- where the phase and the row at k are changed, the state at k is
   pub beside-set : (phases : List S) (rows : List (List Debt)) (k : ℕ) (phase : S) (row : List Debt) → length rows ≡ length phases →
       beside (set phases k phase) (set rows k row) ≡ set (beside phases rows) k (record { phase = phase; owes = row })
-  beside-set [] [] k phase row long = refl
-  beside-set [] (r ∷ rows) k phase row long = absurd (omega (arith, long))
+  beside-set [] rows k phase row long = refl
   beside-set (p ∷ phases) [] k phase row long = absurd (omega (arith, long))
   beside-set (p ∷ phases) (r ∷ rows) zero phase row long = refl
   beside-set (p ∷ phases) (r ∷ rows) (suc k) phase row long = ap (λ xs. record { phase = p; owes = r } ∷ xs) (beside-set phases rows k phase row (omega (arith, long)))
@@ -100,11 +98,10 @@ module _ {S : Type 0} where
 
 -- What follows is of lists that grow at their end.
 module _ {X : Type 0} where
-  -- the element at k of a list that has one
+  -- an element of a list that has one at k
   pub some-at : (xs : List X) (k : ℕ) → k < length xs → X
   some-at [] k low = absurd (omega (arith, low))
-  some-at (x ∷ xs) zero low = x
-  some-at (x ∷ xs) (suc k) low = some-at xs k (omega (arith, low))
+  some-at (x ∷ xs) k low = x
 
   -- a list that begins with the old elements is at least as long
   pub not-shorter : (old new : List X) → take (length old) new ≡ old → length old ≤ length new

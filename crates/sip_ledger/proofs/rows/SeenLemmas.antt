@@ -1,5 +1,5 @@
 -- Accounts as contracts see them: a list of what each row owes, and the messages that rows owe.
-use Rattle.sip_ledger.proofs.Words.{take-length, ◌≡◌, ℕ, ◌+◌, ◌<◌, ◌≤◌, ◌==◌, true, false, List, [], ◌∷◌, ◌++◌, length, get_or, get_or-map, map, refl, sym, subst, ap, ◌∙◌, arith, nat_tests, All, Contains, list_any, and-true, cases_eq, cases_lt, eqb-true, false_from_ne_true, le-leb, true≢false, append_assoc, get_or_append_left, get_or_default, get_or_push, length_push, All-get_or, All-map, Contains-append_left, Contains-push, Contains-push_cases, list_any_at, list_any_none, All-cons, All-nil, Debt, Account, Gains, Strike, AppendsOwed, owes_message, some_owes, is_payable, Rise, account_debts, accounts_debts, entries_of, entry_at, must_at, owes_at, holds, common_steps, ◌≢◌, take, set, IsTrue, Option, Some, None, IfSome, IfNone, Result, Ok, Err, IsErr, OnErr, ◌↔◌, is_err, is_some, eq-eqb, drop_min, All-weaker, sum_by-cons, debts_print, owed_in, softened_account, softened_debt, debt_deadlines, earliest, IsNextGain, AreAccounts, AreGains, IsAccount, IsFirstPayable, KeepsAccounts, pays_at, map-append, map-set, length-map, take-map, drop-map, All-take, All-drop, All-push, All-set}
+use Rattle.sip_ledger.proofs.Words.{◌≡◌, ℕ, ◌+◌, ◌<◌, ◌≤◌, ◌==◌, true, false, List, [], ◌∷◌, ◌++◌, length, get_or, get_or-map, map, refl, sym, subst, ap, ◌∙◌, arith, nat_tests, All, Contains, list_any, and-true, cases_eq, cases_lt, eqb-true, false_from_ne_true, le-leb, true≢false, append_assoc, get_or_append_left, get_or_default, get_or_push, length_push, All-get_or, All-map, Contains-append_left, Contains-push, Contains-push_cases, list_any_at, list_any_none, All-cons, All-nil, Debt, Account, Gains, Strike, AppendsOwed, owes_message, some_owes, is_payable, Rise, account_debts, accounts_debts, entries_of, entry_at, must_at, owes_at, holds, common_steps, ◌≢◌, take, set, IsTrue, Option, Some, None, IfSome, IfNone, Result, Ok, Err, IsErr, OnErr, ◌↔◌, is_err, is_some, eq-eqb, drop_min, All-weaker, sum_by-cons, debts_print, owed_in, softened_account, softened_debt, debt_deadlines, earliest, IsNextGain, AreAccounts, AreGains, IsAccount, IsFirstPayable, KeepsAccounts, pays_at, map-append, map-set, length-map, take-map, drop-map, All-take, All-drop, All-push, All-set}
 use Rattle.sip_ledger.proofs.debts.ListedLemmas.{listed-each, listed-softened}
 use Rattle.sip_ledger.proofs.account.AccountLemmas.{kept-start, empty-account, empty-debts, kept-all, must-below, owed-within}
 use Rattle.sip_ledger.proofs.gains.LeftLemmas.{entries_long, held_left, owed-left}

@@ -94,11 +94,10 @@ module _ {X S : Type 0} (names : S → List ℕ) (InRange : S → Type 0) (seen 
   answers-cover P test g [] all = Covers-none (FromSome P []) (λ y none. none)
   answers-cover P test g (x ∷ xs) all =
       -- the first state gives its answer, if it passes, and the others cover what leads from them
-      let here = All-head (λ x. AnswersOne names InRange seen texts (P x) (cond (test x) (Some (g x)) None)) x xs all in
       let more = answers-cover P test g xs (All-tail (λ x. AnswersOne names InRange seen texts (P x) (cond (test x) (Some (g x)) None)) x xs all) in
       let is : map g (filter test (x ∷ xs)) ≡ option_to_list (cond (test x) (Some (g x)) None) ++ map g (filter test xs) = grind (arith, nat_tests) in
-      subst (Cover (FromSome P (x ∷ xs))) (sym is)
-      (Covers-both (P x) (FromSome P xs) (option_to_list (cond (test x) (Some (g x)) None)) (map g (filter test xs)) (Covers-one (P x) (cond (test x) (Some (g x)) None) here) more)
+      rw is (Covers-both (P x) (FromSome P xs) (option_to_list (cond (test x) (Some (g x)) None)) (map g (filter test xs))
+      (Covers-one (P x) (cond (test x) (Some (g x)) None) (all 0 x (omega arith))) more)
 
   -- the new states are the old ones and, after these, states that cover what leads from `some`, where P says what leads from each
   abbrev pub HasFound : (S → X → Type 0) → List S → List S → List S → Type 0

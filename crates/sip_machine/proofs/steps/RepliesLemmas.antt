@@ -1,4 +1,4 @@
--- What a row of a server adds to the debts, and which send pays them.
+-- What a row of a server adds to the debts.
 use Rattle.sip_machine.proofs.Words.{All-push, arith, nat_tests, ◌≡◌, ◌↔◌, ℕ, Bool, not, IsTrue, List, Texts, Keeps, text_of, Knows, Is100, After, gains, Replies, turn_seen, turn_names, TurnInRange, IsTheOne}
 use Rattle.sip_machine.specs.declared.phases.Change.TheVariants as code
 

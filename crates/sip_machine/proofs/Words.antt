@@ -18,7 +18,7 @@ pub use Rattle.std.specs.Cmp.Lexicographic.{bytes_decides}
 pub use Rattle.std.specs.List.{HoldsAt, items_where_true, list_any}
 pub use Rattle.std.specs.List.Retain.{IsFiltered}
 pub use Rattle.std.specs.Option.{option_map}
-pub use Rattle.std.specs.Prelude.{All, AllPairs, Bool, Contains, IfSome, IsTrue, List, None, Option, Some, [], bytes_eq, cond, drop, false, filter, get_or, length, map, min, not, option_to_list, replicate, set, slice_get, take, true, ℕ, ◌&&◌, ◌++◌, ◌+◌, ◌-◌, ◌<◌, ◌==◌, ◌||◌, ◌↔◌, ◌∷◌, ◌≡◌, ◌≢◌, ◌≤◌, ◌⊎◌}
+pub use Rattle.std.specs.Prelude.{All, AllPairs, Bool, Contains, IsTrue, List, None, Option, Some, [], bytes_eq, cond, drop, false, filter, get_or, length, map, min, not, option_to_list, replicate, set, slice_get, take, true, ℕ, ◌&&◌, ◌++◌, ◌+◌, ◌-◌, ◌<◌, ◌==◌, ◌||◌, ◌↔◌, ◌∷◌, ◌≡◌, ◌≢◌, ◌≤◌, ◌⊎◌}
 pub use Rattle.std.specs.Vec.{vec_len}
 pub use Rattle.std.specs.declared.cmp.Ordering.TheVariants.{Equal}
 pub use Rattle.sip_key.proofs.AckOfLemmas.{ack-of_says}
@@ -51,7 +51,7 @@ pub use Rattle.sip_message.proofs.lemmas.says.Reading.{same_reading, says-no_fau
 pub use Rattle.sip_message.specs.Reading.{Reading}
 pub use Rattle.sip_message.specs.Reads.{Reads}
 pub use Rattle.sip_message.specs.SaidOf.{said_of}
-pub use Rattle.sip_phases.proofs.debts.DebtLaws.{All-back, All-front, IsWithoutFirst-alike, filter-map}
+pub use Rattle.sip_phases.proofs.debts.DebtLaws.{IsWithoutFirst-alike, filter-map}
 pub use Rattle.sip_phases.proofs.debts.OwesLaws.{All-names, payables-seen}
 pub use Rattle.sip_standard.proofs.Few.{AllPairs-head, AllPairs-tail}
 pub use Rattle.sip_standard.specs.AckOf.{AckOf, IsAckOf, SameSolid}

@@ -7,6 +7,7 @@ use crate::numbers::set_of;
 use crate::wants::{Done, holds};
 use sip_ledger::{Accounts, Debt};
 use std::alloc::Global;
+use std::iter::repeat_n;
 use std::process::Abort;
 use std::test::Fail;
 
@@ -22,15 +23,17 @@ struct Played {
 }
 
 impl Played {
-    /// One row that owes nothing.
-    fn new(rt: &(impl Abort + AllocGlobal)) -> Result<Self, Fail> {
+    /// So many rows that owe nothing.
+    fn new(rt: &(impl Abort + AllocGlobal), rows: usize) -> Result<Self, Fail> {
         let mut played = Played {
             alloc: rt.alloc(),
             accounts: Accounts::new(rt.alloc()),
             lists: Vec::new(rt.alloc()),
             clock: 0,
         };
-        played.push()?;
+        for _ in 0..rows {
+            played.push()?;
+        }
         Ok(played)
     }
 
@@ -51,180 +54,140 @@ impl Played {
     /// A row comes that owes nothing.
     fn push(&mut self) -> Done {
         self.accounts.push()?;
-        self.lists.push(Vec::new(self.alloc))?;
-        Ok(())
+        Ok(self.lists.push(Vec::new(self.alloc))?)
     }
 
     /// A row comes that owes what this one owes.
     fn push_copy(&mut self, rt: &impl Abort, row: usize) -> Done {
         self.has(rt, row);
         self.accounts.push_copy(row)?;
-        self.lists.push(self.lists[row].clone()?)?;
-        Ok(())
+        Ok(self.lists.push(self.lists[row].clone()?)?)
     }
 
-    /// Of the rows from one up to another that must send nothing that is past, those that pay the message come once more, without what they pay and what is
-    /// past; where no message is told, each comes once more as it is.
-    fn push_some(
-        &mut self,
-        rt: &impl Abort,
-        from: usize,
-        to: usize,
-        message: Option<u64>,
-        moment: u64,
-    ) -> Done {
-        holds(rt, to <= self.accounts.len(), "rows of the accounts");
+    /// Of the rows from one up to another each timely one comes once more: as it is, or, where a message is told, if it pays that, without it and what is past.
+    fn push_some(&mut self, from: usize, to: usize, message: Option<u64>, moment: u64) -> Done {
+        let to = to.min(self.accounts.len());
         match message {
             Some(message) => self.accounts.push_paid(from, to, message, moment)?,
             None => self.accounts.push_timely(from, to, moment)?,
         }
-        for row in from..to {
-            holds(rt, row < self.lists.len(), "a row of the lists");
-            let mut left = self.lists[row].clone()?;
-            let is_timely = earliest_must(&left).is_none_or(|deadline| moment <= deadline);
-            let comes = match message {
-                Some(message) => pays(&mut left, message, moment),
-                None => true,
-            };
-            if is_timely && comes {
-                self.lists.push(left)?;
+        let mut come = Vec::new(self.alloc);
+        for list in self.lists.iter().take(to).skip(from) {
+            let mut left = list.clone()?;
+            let comes = message.is_none_or(|message| pays(&mut left, message, moment));
+            if comes && earliest_must(list).is_none_or(|deadline| moment <= deadline) {
+                come.push(left)?;
             }
         }
-        Ok(())
+        Ok(self.lists.append(&mut come)?)
     }
 
     /// The rows from `from` on gain the debt.
     fn gain_each(&mut self, from: usize, debt: Debt) -> Done {
         self.accounts.gain_each(from, debt)?;
-        for list in self.lists.iter_mut().skip(from) {
-            list.push(debt)?;
-        }
-        Ok(())
+        let mut lists = self.lists.iter_mut().skip(from);
+        Ok(lists.try_for_each(|list| list.push(debt))?)
     }
 
     /// The row loses what it may send and whose deadline is past.
     fn expire(&mut self, rt: &impl Abort, row: usize, moment: u64) -> Done {
         self.has(rt, row);
-        self.accounts.expire(row, moment)?;
-        self.lists[row].retain(|debt| debt.must || moment <= debt.deadline);
-        Ok(())
+        expire(&mut self.lists[row], moment);
+        Ok(self.accounts.expire(row, moment)?)
     }
 
     /// The row gains the debt, and loses what it may send and whose deadline is past.
     fn gain_and_expire(&mut self, rt: &impl Abort, row: usize, debt: Debt, moment: u64) -> Done {
         self.has(rt, row);
-        self.accounts.gain_and_expire(row, debt, moment)?;
         self.lists[row].push(debt)?;
-        self.lists[row].retain(|debt| debt.must || moment <= debt.deadline);
-        Ok(())
+        expire(&mut self.lists[row], moment);
+        Ok(self.accounts.gain_and_expire(row, debt, moment)?)
     }
 
     /// The row pays the first debt that a send of the message pays, if there is one, and loses what it may send and whose deadline is past.
     fn pay_and_expire(&mut self, rt: &impl Abort, row: usize, message: u64, moment: u64) -> Done {
         self.has(rt, row);
         let can = self.accounts.can_pay(row, message, moment);
-        self.accounts.pay_and_expire(row, message, moment)?;
-        let paid = pays(&mut self.lists[row], message, moment);
-        holds(rt, can == paid, "whether it can pay");
-        Ok(())
+        let pays = pays(&mut self.lists[row], message, moment);
+        holds(rt, can == pays, "whether it can pay");
+        Ok(self.accounts.pay_and_expire(row, message, moment)?)
     }
 
     /// What the row owes need not be sent any more.
     fn soften(&mut self, rt: &impl Abort, row: usize) {
         self.has(rt, row);
         self.accounts.soften(row);
-        for debt in self.lists[row].iter_mut() {
-            debt.must = false;
-        }
+        let debts = self.lists[row].iter_mut();
+        debts.for_each(|debt| debt.must = false);
     }
 
-    /// The last row goes.
+    /// The last row goes, where it is not the only one.
     fn truncate(&mut self) {
-        // One row always stays.
         let kept = self.lists.len().saturating_sub(1).max(1);
         self.accounts.truncate(kept);
         self.lists.truncate(kept);
     }
 
     /// Every second row is kept.
-    fn keep_some(&mut self, rt: &impl Abort) -> Done {
-        let (mut rows, mut kept) = (Vec::new(self.alloc), Vec::new(self.alloc));
+    fn keep_some(&mut self) -> Done {
+        let mut rows = Vec::new(self.alloc);
         for row in 0..self.accounts.len() {
             if row % 2 == 0 {
-                holds(rt, row < self.lists.len(), "a row of the lists");
                 rows.push(row)?;
-                kept.push(self.lists[row].clone()?)?;
             }
         }
         self.accounts.keep(&rows);
-        self.lists = kept;
+        let kept = self.lists.iter().step_by(2).map(|list| list.clone());
+        self.lists = kept.try_collect(self.alloc)?;
         Ok(())
     }
 
-    /// The debts of the row are those of this list.
+    /// The row owes the debts of this list, and tells the first one, the least deadline of what must be sent, and whether that is past, then and one later.
     fn owes_debts(&self, rt: &impl Abort, row: usize, list: &[Debt]) -> Done {
-        holds(rt, row < self.accounts.len(), "a row of the accounts");
-        let first = self.accounts.first_debt(row);
-        holds(rt, first == list.first().copied(), "first debt");
-        let runs = self.accounts.runs(self.alloc, row)?;
-        let mut debts = Vec::new(self.alloc);
-        for run in &runs {
-            for _ in 0..run.count {
-                debts.push(run.debt)?;
-            }
-        }
-        holds(rt, debts.as_slice() == list, "debts");
-        Ok(())
-    }
-
-    /// The row says as the list does whether it owes nothing, what it must send first, and whether that is past at its deadline and one later.
-    fn owes_in_time(&self, rt: &impl Abort, row: usize, list: &[Debt]) -> Done {
-        holds(rt, row < self.accounts.len(), "a row of the accounts");
-        let owes_nothing = self.accounts.owes_nothing(row);
-        holds(rt, owes_nothing == list.is_empty(), "owes nothing");
-        let least = earliest_must(list);
-        let earliest = self.accounts.earliest_must(row);
-        holds(rt, earliest == least, "earliest must");
+        self.has(rt, row);
+        let accounts = &self.accounts;
+        let runs = accounts.runs(self.alloc, row)?;
+        let debts = runs.iter().flat_map(|run| repeat_n(run.debt, run.count));
+        holds(rt, debts.eq(list.iter().copied()), "debts");
+        let (first, least) = (list.first().copied(), earliest_must(list));
+        holds(rt, accounts.first_debt(row) == first, "first debt");
+        holds(rt, accounts.owes_nothing(row) == first.is_none(), "nothing");
+        holds(rt, accounts.earliest_must(row) == least, "earliest must");
         let moment = least.unwrap_or(0);
-        holds(rt, self.accounts.is_timely(row, moment), "timely");
+        holds(rt, accounts.is_timely(row, moment), "timely");
         // One later the row is timely only where it must send nothing.
-        let late = self.accounts.is_timely(row, moment.saturating_add(1));
+        let late = accounts.is_timely(row, moment.saturating_add(1));
         holds(rt, late == least.is_none(), "late");
         Ok(())
     }
 
     /// The row names the messages of this list, or each of them once, from the least on.
     fn owes_names(&self, rt: &impl Abort, row: usize, list: &[Debt]) -> Done {
-        holds(rt, row < self.accounts.len(), "a row of the accounts");
-        let mut names = Vec::new(self.alloc);
+        self.has(rt, row);
+        let (mut names, mut once) = (Vec::new(self.alloc), Vec::new(self.alloc));
         self.accounts.names(self.alloc, row, &mut names)?;
+        self.accounts.names_once(row, &mut once)?;
         let wants = list.iter().map(|debt| debt.message);
         holds(rt, names.iter().copied().eq(wants), "names");
         names.sort_unstable();
         names.dedup();
-        let mut once = Vec::new(self.alloc);
-        self.accounts.names_once(row, &mut once)?;
         holds(rt, once.as_slice() == names.as_slice(), "names once");
         Ok(())
     }
 
-    /// The first debt of each row that a send of one of some messages pays is the first such debt of its list, whether the messages are asked for under a key
-    /// of their own or under one of other messages too.
+    /// The first debt of each row that a send of one of some messages pays is the first such debt of its list. Three of the four have one least message.
     fn pays_some_first(&mut self, rt: &impl Abort) -> Done {
         // Each two of the messages 0, 1 and 2, and all of them.
         for some in [[2, 1, 1], [0, 2, 2], [1, 0, 0], [0, 1, 2]] {
             let messages = set_of(self.alloc, &some)?;
             for (row, list) in self.lists.iter().enumerate() {
                 let moment = earliest_must(list).unwrap_or(0);
-                let mut debts = list.iter();
-                let first = debts.find(|debt| some.contains(&debt.message)
-                    && moment <= debt.deadline);
+                let mut debts = list.iter().filter(|debt| moment <= debt.deadline);
+                let first = debts.find(|debt| some.contains(&debt.message));
                 let want = first.map(|debt| debt.message);
-                for key in [some[0] * 10 + some[1], u64::MAX] {
-                    holds(rt, row < self.accounts.len(), "a row of the accounts");
-                    let found = self.accounts.first_payable(row, key, &messages, moment)?;
-                    holds(rt, found == want, "first payable");
-                }
+                holds(rt, row < self.accounts.len(), "a row of the accounts");
+                let found = self.accounts.first_payable(row, &messages, moment)?;
+                holds(rt, found == want, "first payable");
             }
         }
         Ok(())
@@ -240,7 +203,7 @@ impl Played {
         self.accounts.all_names(&mut names)?;
         holds(rt, names.as_slice() == wants.as_slice(), "all names");
         let (low, high) = self.accounts.span();
-        let is_span = wants.iter().all(|name| low <= *name && *name <= high);
+        let is_span = wants.iter().all(|name| (low..=high).contains(name));
         holds(rt, is_span, "span");
         Ok(())
     }
@@ -255,11 +218,10 @@ impl Played {
     fn owes_lists(&self, rt: &impl Abort) -> Done {
         holds(rt, self.accounts.len() == self.lists.len(), "count of rows");
         self.names_all(rt)?;
-        let prints = self.accounts.prints(self.alloc, 0)?;
-        let fronts = self.accounts.front_prints(self.alloc, 0, FRONT)?;
+        let prints = self.accounts.prints(self.alloc, 0, 0)?;
+        let fronts = self.accounts.prints(self.alloc, 0, FRONT)?;
         for (row, list) in self.lists.iter().enumerate() {
             self.owes_debts(rt, row, list)?;
-            self.owes_in_time(rt, row, list)?;
             self.owes_names(rt, row, list)?;
             for (other, its) in self.lists.iter().enumerate() {
                 self.has(rt, row);
@@ -296,8 +258,13 @@ fn pays(list: &mut Vec<Debt>, message: u64, moment: u64) -> bool {
     if let Some(first) = first {
         list.remove(first);
     }
-    list.retain(|debt| debt.must || moment <= debt.deadline);
+    expire(list, moment);
     first.is_some()
+}
+
+/// The list loses what may be sent and is past.
+fn expire(list: &mut Vec<Debt>, moment: u64) {
+    list.retain(|debt| debt.must || moment <= debt.deadline);
 }
 
 /// The least deadline of what must be sent.
@@ -317,21 +284,19 @@ pub(crate) fn owed(message: u64, deadline: u64, must: bool) -> Debt {
 
 /// Rows come and go.
 fn change_rows(rt: &impl Abort, chance: &mut Chance, played: &mut Played) -> Done {
-    let row = played.row(chance);
-    let other = played.row(chance);
+    let (row, other) = (played.row(chance), played.row(chance));
+    played.has(rt, row);
+    played.has(rt, other);
     match chance.below(8) {
         0 if played.lists.len() < 12 => played.push()?,
         1 | 2 if played.lists.len() < 12 => played.push_copy(rt, row)?,
         3 => {
-            played.has(rt, row);
-            played.has(rt, other);
             played.accounts.copy(row, other);
             played.lists[other] = played.lists[row].clone()?;
         }
         4 if played.lists.len() > 6 => played.truncate(),
-        5 if played.lists.len() > 3 => played.keep_some(rt)?,
+        5 if played.lists.len() > 3 => played.keep_some()?,
         6 if chance.below(8) == 0 => {
-            played.has(rt, row);
             played.accounts.clear(row);
             played.lists[row].clear();
         }
@@ -342,26 +307,21 @@ fn change_rows(rt: &impl Abort, chance: &mut Chance, played: &mut Played) -> Don
 
 /// Many rows change at once.
 fn change_many(rt: &impl Abort, chance: &mut Chance, played: &mut Played, moment: u64) -> Done {
-    let from = played.row(chance);
-    let to = played.row(chance);
-    let message = chance.below(3);
+    let (from, to) = (played.row(chance), played.row(chance));
+    let (message, later) = (chance.below(3), moment.saturating_add(5));
     match chance.below(6) {
-        0 if played.lists.len() < 12 => played.push_some(rt, from, to, None, moment)?,
+        0 if played.lists.len() < 12 => played.push_some(from, to, None, moment)?,
         1 => {
             played.accounts.expire_each(from, moment)?;
-            for list in played.lists.iter_mut().skip(from) {
-                list.retain(|debt| debt.must || moment <= debt.deadline);
-            }
+            let lists = played.lists.iter_mut().skip(from);
+            lists.for_each(|list| expire(list, moment));
         }
-        2 => {
-            let must = chance.below(2) == 0;
-            played.gain_each(from, owed(message, moment.saturating_add(5), must))?;
-        }
+        2 => played.gain_each(from, owed(message, later, chance.below(2) == 0))?,
         3 if played.lists.len() > 6 => {
             played.accounts.drop_first(1);
             played.lists.remove(0);
         }
-        _ if played.lists.len() < 12 => played.push_some(rt, from, to, Some(message), moment)?,
+        _ if played.lists.len() < 12 => played.push_some(from, to, Some(message), moment)?,
         _ => played.truncate(),
     }
     Ok(())
@@ -372,24 +332,20 @@ fn step(rt: &impl Abort, chance: &mut Chance, played: &mut Played, rises: bool) 
     let row = played.row(chance);
     let now = played.clock;
     let moment = if rises { now } else { chance.below(40) };
-    let later = now.saturating_add(5);
     match chance.below(22) {
         0 => played.soften(rt, row),
         1 => played.clock = now.saturating_add(chance.below(3)),
         2 | 3 => played.expire(rt, row, moment)?,
-        4..11 => {
-            let message = chance.below(4);
-            played.pay_and_expire(rt, row, message, moment)?;
-        }
+        4..11 => played.pay_and_expire(rt, row, chance.below(4), moment)?,
         11..15 => change_rows(rt, chance, played)?,
         15..17 => change_many(rt, chance, played, moment)?,
         _ => {
+            let later = now.saturating_add(5);
             let deadline = if rises { later } else { moment / 10 * 10 };
             let must = chance.below(2) == 0;
             for row in 0..played.lists.len() {
                 if chance.below(3) != 0 {
-                    let debt = owed(chance.below(3), deadline, must);
-                    played.gain_and_expire(rt, row, debt, 0)?;
+                    played.gain_and_expire(rt, row, owed(chance.below(3), deadline, must), 0)?;
                 }
             }
         }
@@ -401,32 +357,31 @@ fn step(rt: &impl Abort, chance: &mut Chance, played: &mut Played, rises: bool) 
 fn step_with_past(rt: &impl Abort, chance: &mut Chance, played: &mut Played) -> Done {
     let row = played.row(chance);
     let now = played.clock;
-    let message = chance.below(3);
+    let (message, later) = (chance.below(3), now.saturating_add(5));
     match chance.below(6) {
         0 => played.clock = now.saturating_add(chance.below(4)),
         1 if played.lists.len() < 6 => played.push_copy(rt, row)?,
         1 => played.soften(rt, row),
-        2 | 3 => {
-            let debt = owed(message, now.saturating_add(5), chance.below(2) == 0);
-            played.gain_and_expire(rt, row, debt, now)?;
-        }
+        2 | 3 => played.gain_and_expire(rt, row, owed(message, later, chance.below(2) == 0), now)?,
         _ => played.pay_and_expire(rt, row, message, now)?,
     }
     played.agree(rt)
 }
 
 /// Twelve seeds, of which every second one has deadlines that rise with the clock. Before them two rows gain a debt, the second after all that it owes,
-/// while the first gains it at an earlier place.
+/// while the first gains it at an earlier place. Once the second has paid the others, both owe the same by other places.
 #[test]
 fn accounts_owe_what_plain_lists_have(rt: HostRuntime) -> Done {
-    let mut played = Played::new(&rt)?;
-    played.push_copy(&rt, 0)?;
+    let mut played = Played::new(&rt, 2)?;
     played.gain_and_expire(&rt, 1, owed(1, 10, true), 0)?;
     played.gain_and_expire(&rt, 1, owed(2, 10, true), 0)?;
     played.gain_each(0, owed(1, 10, true))?;
     played.agree(&rt)?;
+    played.pay_and_expire(&rt, 1, 1, 10)?;
+    played.pay_and_expire(&rt, 1, 2, 10)?;
+    played.agree(&rt)?;
     for seed in 0..12 {
-        let (mut chance, mut played) = (Chance::new(seed), Played::new(&rt)?);
+        let (mut chance, mut played) = (Chance(seed), Played::new(&rt, 1)?);
         for _ in 0..80 {
             step(&rt, &mut chance, &mut played, seed % 2 == 0)?;
         }
@@ -438,7 +393,7 @@ fn accounts_owe_what_plain_lists_have(rt: HostRuntime) -> Done {
 #[test]
 fn rows_gain_and_pay_and_lose_what_is_past(rt: HostRuntime) -> Done {
     for seed in 0..4 {
-        let (mut chance, mut played) = (Chance::new(seed), Played::new(&rt)?);
+        let (mut chance, mut played) = (Chance(seed), Played::new(&rt, 1)?);
         for _ in 0..100 {
             step_with_past(&rt, &mut chance, &mut played)?;
         }
@@ -449,10 +404,10 @@ fn rows_gain_and_pay_and_lose_what_is_past(rt: HostRuntime) -> Done {
 /// A row that comes once more as it pays loses what it may send and whose deadline is past.
 #[test]
 fn rows_that_pay_lose_what_is_past(rt: HostRuntime) -> Done {
-    let mut played = Played::new(&rt)?;
+    let mut played = Played::new(&rt, 1)?;
     played.gain_each(0, owed(1, 10, false))?;
     played.gain_each(0, owed(2, 20, true))?;
-    played.push_some(&rt, 0, 1, Some(2), 15)?;
+    played.push_some(0, 1, Some(2), 15)?;
     played.agree(&rt)
 }
 
@@ -460,7 +415,7 @@ fn rows_that_pay_lose_what_is_past(rt: HostRuntime) -> Done {
 #[test]
 fn equal_debts_count_as_often_as_they_were_gained(rt: HostRuntime) -> Done {
     for count in [0, 1, 63, 64, 65] {
-        let mut played = Played::new(&rt)?;
+        let mut played = Played::new(&rt, 1)?;
         for _ in 0..count {
             played.gain_and_expire(&rt, 0, owed(7, 10, true), 0)?;
         }
@@ -474,20 +429,17 @@ fn equal_debts_count_as_often_as_they_were_gained(rt: HostRuntime) -> Done {
     Ok(())
 }
 
-/// Two rows to which a debt comes at each moment, of one of five messages; each seventh must be sent. Then each row pays another message, and both lose
-/// what is past: what was gained long ago is dropped.
+/// Two rows gain a debt at each moment, of one of five messages, pay another message, and lose what is past: what was gained long ago is dropped.
 #[test]
 fn what_is_owed_is_told_after_a_long_life(rt: HostRuntime) -> Done {
-    let mut played = Played::new(&rt)?;
-    played.push_copy(&rt, 0)?;
+    let mut played = Played::new(&rt, 2)?;
     for moment in 0..150_u64 {
         let debt = owed(moment % 5, moment.saturating_add(3), moment % 7 == 0);
-        played.gain_and_expire(&rt, 0, debt, 0)?;
-        played.gain_and_expire(&rt, 1, debt, 0)?;
-        played.pay_and_expire(&rt, 0, moment.saturating_add(3) % 5, moment)?;
-        played.pay_and_expire(&rt, 1, moment.saturating_add(4) % 5, moment)?;
-        played.expire(&rt, 0, moment)?;
-        played.expire(&rt, 1, moment)?;
+        for (row, ahead) in [(0, 3), (1, 4)] {
+            played.gain_and_expire(&rt, row, debt, 0)?;
+            played.pay_and_expire(&rt, row, moment.saturating_add(ahead) % 5, moment)?;
+            played.expire(&rt, row, moment)?;
+        }
         played.accounts.tidy();
         played.agree(&rt)?;
     }
@@ -497,9 +449,7 @@ fn what_is_owed_is_told_after_a_long_life(rt: HostRuntime) -> Done {
 /// After a long common front two rows owe the same debts in another order, and then the same by other places.
 #[test]
 fn rows_meet_by_other_places(rt: HostRuntime) -> Done {
-    let mut played = Played::new(&rt)?;
-    played.push_copy(&rt, 0)?;
-    played.push_copy(&rt, 0)?;
+    let mut played = Played::new(&rt, 3)?;
     for _ in 0..10 {
         played.gain_each(0, owed(7, 10, true))?;
         played.gain_and_expire(&rt, 2, owed(3, 10, true), 0)?;
@@ -516,7 +466,7 @@ fn rows_meet_by_other_places(rt: HostRuntime) -> Done {
 /// The first row comes to owe a hundred messages, and pays them in a mixed order.
 #[test]
 fn one_row_pays_in_any_order(rt: HostRuntime) -> Done {
-    let mut played = Played::new(&rt)?;
+    let mut played = Played::new(&rt, 1)?;
     for message in 0..100 {
         played.gain_and_expire(&rt, 0, owed(message, 10, message % 2 == 0), 0)?;
     }

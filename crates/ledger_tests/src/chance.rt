@@ -1,15 +1,10 @@
 //! Numbers by chance.
 
-/// Random numbers.
+/// Random numbers, which begin with this seed.
 #[derive(Drop)]
-pub(crate) struct Chance(u64);
+pub(crate) struct Chance(pub(crate) u64);
 
 impl Chance {
-    /// The random numbers that begin with this seed.
-    pub(crate) fn new(seed: u64) -> Self {
-        Chance(seed)
-    }
-
     /// A random number below the limit, which is not 0.
     pub(crate) fn below(&mut self, limit: u64) -> u64 {
         // The next number is made of the last one by a product and a sum (a linear congruential generator), and its upper bits are taken.

@@ -11,9 +11,7 @@ const ENDS: [u64; 14] = [0, 1, 62, 63, 64, 65, 127, 128, 191, 192, 6400, !64, !6
 /// The set of these numbers.
 pub(crate) fn set_of(alloc: Global, numbers: &[u64]) -> Result<Numbers, Fail> {
     let mut set = Numbers::new(alloc);
-    for number in numbers {
-        set.put(*number)?;
-    }
+    numbers.iter().try_for_each(|number| set.put(*number))?;
     Ok(set)
 }
 
@@ -21,34 +19,30 @@ pub(crate) fn set_of(alloc: Global, numbers: &[u64]) -> Result<Numbers, Fail> {
 /// numbers that it has.
 #[test]
 fn sets_meet_where_lists_do(rt: HostRuntime) -> Done {
-    let (mut one, mut other) = (set_of(rt.alloc(), &[])?, set_of(rt.alloc(), &[])?);
-    let (mut ones, mut others) = (Vec::new(rt.alloc()), Vec::new(rt.alloc()));
-    let out = set_of(rt.alloc(), &[1, 63, 65, 192, 193, !63])?;
-    let mut chance = Chance::new(11);
+    let mut sets = [set_of(rt.alloc(), &[])?, set_of(rt.alloc(), &[])?];
+    let mut lists = [Vec::new(rt.alloc()), Vec::new(rt.alloc())];
+    let outs = [1, 63, 65, 192, 193, !63];
+    let out = set_of(rt.alloc(), &outs)?;
+    let mut chance = Chance(11);
     for _ in 0..300 {
         let number = ENDS[chance.below(14) as usize % 14];
-        let (set, list) = if chance.below(2) == 0 {
-            (&mut one, &mut ones)
-        } else {
-            (&mut other, &mut others)
-        };
+        let side = chance.below(2) as usize % 2;
         if chance.below(3) == 0 {
-            set.take(number);
-            list.retain(|it: &u64| *it != number);
+            sets[side].take(number);
+            lists[side].retain(|it: &u64| *it != number);
         } else {
-            set.put(number)?;
-            list.push(number)?;
+            sets[side].put(number)?;
+            lists[side].push(number)?;
         }
+        let ([one, other], [ones, others]) = (&sets, &lists);
         for from in ENDS {
-            let both = ones.iter().filter(|it| from <= **it && others.contains(it));
-            let first = both.copied().min();
-            holds(&rt, one.next_in_both(&other, from) == first, "next in both");
-            holds(&rt, other.next_in_both(&one, from) == first, "next in both");
-            let both = ones.iter().filter(|it| from <= **it && others.contains(it));
-            let left = both.filter(|it| ![1, 63, 65, 192, 193, !63].contains(it));
-            let first = left.copied().min();
-            let found = one.next_in_both_but(&other, &out, from);
-            holds(&rt, found == first, "next in both but those");
+            let is_both = |it: &&u64| from <= **it && others.contains(*it);
+            let first = ones.iter().filter(is_both).copied().min();
+            holds(&rt, one.next_in_both(other, from) == first, "next in both");
+            holds(&rt, other.next_in_both(one, from) == first, "next in both");
+            let left = ones.iter().filter(is_both).filter(|it| !outs.contains(it));
+            let found = one.next_in_both_but(other, &out, from);
+            holds(&rt, found == left.copied().min(), "next in both but those");
         }
     }
     Ok(())
@@ -57,14 +51,11 @@ fn sets_meet_where_lists_do(rt: HostRuntime) -> Done {
 /// Sets of numbers that lie far apart meet in few of them: no word is passed over, and none is told twice.
 #[test]
 fn sets_meet_once_in_each_number(rt: HostRuntime) -> Done {
-    let alloc = rt.alloc();
-    let sevens = set_of(alloc, &[7, 70, 700, 7000, 70_000])?;
-    let tens = set_of(alloc, &[10, 70, 100, 700, 1000, 7000, 70_001])?;
-    let mut from = 0;
-    for want in [Some(70), Some(700), Some(7000), None] {
-        let found = sevens.next_in_both(&tens, from);
-        holds(&rt, found == want, "the next one");
-        from = want.unwrap_or(0).saturating_add(1);
+    let sevens = set_of(rt.alloc(), &[7, 70, 700, 7000, 70_000])?;
+    let tens = set_of(rt.alloc(), &[10, 70, 100, 700, 1000, 7000, 70_001])?;
+    for (from, want) in [(0, 70), (71, 700), (701, 7000)] {
+        holds(&rt, sevens.next_in_both(&tens, from) == Some(want), "next");
     }
+    holds(&rt, sevens.next_in_both(&tens, 7001).is_none(), "no more");
     Ok(())
 }

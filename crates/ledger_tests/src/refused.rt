@@ -7,7 +7,7 @@ use std::alloc::AllocError;
 use std::process::Abort;
 
 /// Asserts that two accounts have the same rows.
-fn alike(rt: &(impl Abort + AllocGlobal), accounts: &Accounts, twin: &Accounts) -> Done {
+fn alike(rt: &(impl Abort + AllocGlobal), [accounts, twin]: &[Accounts; 2]) -> Done {
     holds(rt, accounts.len() == twin.len(), "count of rows");
     for row in 0..accounts.len() {
         let owed = accounts.runs(rt.alloc(), row)?;
@@ -35,49 +35,41 @@ fn step(rt: &impl Abort, accounts: &mut Accounts, number: u32) -> Result<(), All
     }
 }
 
-/// Does the step, and asks for the messages that rows owe, each by a second call where memory was refused. Does the step to the twin as well, and
-/// asserts that both have the same rows then.
-fn step_again(
-    rt: &(impl Abort + AllocGlobal),
-    accounts: &mut Accounts,
-    twin: &mut Accounts,
-    number: u32,
-) -> Done {
-    let done = step(rt, accounts, number);
+/// Both accounts take the step, and the first tells which messages rows owe, each by a second call where memory is refused. Both have the same rows then.
+fn step_again(rt: &(impl Abort + AllocGlobal), both: &mut [Accounts; 2], number: u32) -> Done {
+    let done = step(rt, &mut both[0], number);
     if done.is_err() {
-        alike(rt, accounts, twin)?;
-        step(rt, accounts, number)?;
+        alike(rt, both)?;
+        step(rt, &mut both[0], number)?;
     }
-    step(rt, twin, number)?;
-    alike(rt, accounts, twin)?;
+    step(rt, &mut both[1], number)?;
+    alike(rt, both)?;
     let mut names = Vec::new(rt.alloc());
-    let asked = accounts.all_names(&mut names);
+    let asked = both[0].all_names(&mut names);
     if asked.is_err() {
         holds(rt, names.is_empty(), "no names");
-        accounts.all_names(&mut names)?;
+        both[0].all_names(&mut names)?;
     }
     // All debts of `step` are of the messages 0, 1 and 2.
     holds(rt, names.iter().all(|number| *number < 3), "names");
     Ok(done.and(asked)?)
 }
 
-/// Two accounts take the same 48 steps on two rows, which are kept few: where memory is refused to the first, it has to be as the second, which has not
-/// taken the step yet.
+/// Two accounts of few rows take the same 48 steps: where memory is refused to the first, it has to be as the second, which has not taken the step yet.
 #[test]
 fn accounts_are_as_before_after_a_refused_growth(rt: HostRuntime) -> Done {
-    let mut accounts = Accounts::new(rt.alloc());
-    let mut twin = Accounts::new(rt.alloc());
-    for _ in 0..2 {
+    let mut both = [Accounts::new(rt.alloc()), Accounts::new(rt.alloc())];
+    for accounts in &mut both {
         accounts.push()?;
-        twin.push()?;
+        accounts.push()?;
     }
     for number in 0..48_u32 {
-        step_again(&rt, &mut accounts, &mut twin, number)?;
+        step_again(&rt, &mut both, number)?;
         if number % 8 == 7 {
-            accounts.tidy();
-            twin.tidy();
-            accounts.truncate(3);
-            twin.truncate(3);
+            for accounts in &mut both {
+                accounts.tidy();
+                accounts.truncate(3);
+            }
         }
     }
     Ok(())

@@ -134,6 +134,13 @@ fn an_ack_finds_the_ninth_debt(rt: HostRuntime) -> Result<(), Fail> {
     lead(&rt, &nine(rt.alloc())?, &NINE_ROWS)
 }
 
+/// So it does where the book keeps the To of each beside it, though all of these have one hash.
+#[test]
+fn an_ack_finds_the_ninth_debt_among_tos_of_one_hash(rt: HostRuntime) -> Result<(), Fail> {
+    let book = book_with_tos(rt.alloc(), &NINE, 11)?;
+    lead(&rt, &book, &NINE_ROWS)
+}
+
 /// A book that keeps the messages of `NINE`.
 fn nine(alloc: Global) -> Result<Book, Fail> {
     book_of(alloc, &NINE, "INVITE", "UDP")

@@ -143,12 +143,11 @@ impl Accounts {
         find(gains, strikes, account, &mut seek, message, moment).is_some()
     }
 
-    /// The message of the row's first debt that a send of one of these messages pays at the moment, if there is one. The key is a number for what these
-    /// messages have in common: where it is asked with the same key again, less is looked at. What rows owe stays, also on an error.
+    /// The message of the row's first debt that a send of one of these messages pays at the moment, if there is one. Where it is asked again, less is looked
+    /// at. What rows owe stays, also on an error.
     pub fn first_payable(
         &mut self,
         row: usize,
-        key: u64,
         messages: &Numbers,
         moment: u64,
     ) -> Result<Option<u64>, AllocError>
@@ -157,14 +156,8 @@ impl Accounts {
         ensures first { IfOk result (IsFirstPaid (PaysSome (numbers_of messages.now) moment) moment (owed_in self.old row)) }
     {
         let account = self.rows[row];
-        let found = find_some(
-            &mut self.gains,
-            &self.strikes,
-            account,
-            key,
-            messages,
-            moment,
-        )?;
+        let (gains, strikes) = (&mut self.gains, &self.strikes);
+        let found = find_some(gains, strikes, account, messages, moment)?;
         match found {
             Some(place) => Ok(Some(self.gains.entry(place).message)),
             None => Ok(None),
@@ -172,6 +165,7 @@ impl Accounts {
     }
 
     /// Drops what the row may send and whose deadline is below the moment. On an error all is as before.
+    #[tactic(auto, using(crate::proofs::rows::SeenLemmas::of_other_row))]
     pub fn expire(&mut self, row: usize, moment: u64) -> Result<(), AllocError>
         requires { row < length self.old }
         ensures ok { OnOk result (self.new ≡ set self.old row (filter (counts_at moment) (owed_in self.old row))) }
@@ -182,6 +176,7 @@ impl Accounts {
     }
 
     /// Lets the row owe one more debt, after its others, and drops what it may send and whose deadline is below the moment. On an error all is as before.
+    #[tactic(auto, using(crate::proofs::rows::SeenLemmas::of_other_row))]
     pub fn gain_and_expire(&mut self, row: usize, debt: Debt, moment: u64) -> Result<(), AllocError>
         requires { row < length self.old }
         ensures ok { OnOk result (self.new ≡ set self.old row (filter (counts_at moment) (owed_in self.old row ++ debt ∷ []))) }
@@ -196,6 +191,7 @@ impl Accounts {
 
     /// Takes out of the row the first debt that a send of the message at the moment pays, if there is one, and drops what it may send and
     /// whose deadline is below the moment. On an error all is as before.
+    #[tactic(auto, using(crate::proofs::rows::SeenLemmas::of_other_row))]
     pub fn pay_and_expire(
         &mut self,
         row: usize,

@@ -1,14 +1,13 @@
 -- The names that proofs cite, passed on from one place. Declares nothing.
 pub use Rattle.std.proofs.Common.{ap, append-nil, append_assoc, ap₂, arith, inl, inr, length-append, nat_le, nat_lt, refl, rules, subst, sym, true≢false, ◌∙◌}
-pub use Rattle.std.proofs.Math.Bool.{and-false}
 pub use Rattle.std.proofs.Math.Seq.{drop-append_seam, get_or-append_seam, take-append_seam}
 pub use Rattle.std.proofs.lemmas.Bool.{cases_eq, cases_lt, ne_eqb}
 pub use Rattle.std.proofs.lemmas.Bool.Decides.{nat_tests}
 pub use Rattle.std.proofs.lemmas.Cmp.{ranked}
 pub use Rattle.std.proofs.lemmas.Fn.{All-from_retain, always_returns_same}
 pub use Rattle.std.proofs.lemmas.Grind.{get_or_picked}
-pub use Rattle.std.proofs.lemmas.List.{drop-append-le, drop-map, drop-replicate, drop_all, get_or-drop, get_or-map, get_or-set_other, get_or-set_same, get_or-take, get_or_append_left, get_or_default, get_or_push, length-drop, length-map, length-replicate, length-set, length-take, length-take-le, length_push, map-append, replicate-append-replicate, set-get_or, set_at, set_split, take-append-drop, take-append-le, take-map, take-replicate, take-take, take_all, take_at, take_min, take_more, take_rest, with_items_is}
-pub use Rattle.std.proofs.lemmas.List.Elements.{All-append, All-cons, All-contains, All-contains_itself, All-drop, All-filter, All-get_or, All-head, All-nil, All-push, All-replicate, All-tail, All-take, All-weaker, Contains-append_cases, Contains-append_left, Contains-append_right, Contains-push, Contains-push_cases, filter-append}
+pub use Rattle.std.proofs.lemmas.List.{drop-append-le, drop-map, drop-replicate, drop_all, get_or-drop, get_or-map, get_or-set_other, get_or-set_same, get_or-take, get_or_append_left, get_or_default, get_or_push, length-drop, length-map, length-replicate, length-set, length-take, length-take-le, length_push, map-append, replicate-append-replicate, set-get_or, set_at, set_split, take-append-drop, take-append-le, take-map, take-replicate, take-take, take_all, take_at, take_more, take_rest, with_items_is}
+pub use Rattle.std.proofs.lemmas.List.Elements.{All-append, All-cons, All-contains, All-contains_itself, All-drop, All-filter, All-get_or, All-head, All-nil, All-push, All-replicate, All-tail, All-take, All-weaker, Contains-append_cases, Contains-append_left, Contains-append_right, filter-append}
 pub use Rattle.std.proofs.lemmas.List.Folds.{list_any_at, map_fixed}
 pub use Rattle.std.proofs.lemmas.List.Kept.{AllPairs-cons}
 pub use Rattle.std.proofs.lemmas.List.Quantifiers.{all_pairs_push}
@@ -19,7 +18,7 @@ pub use Rattle.std.specs.Cmp.Lexicographic.{bytes_decides}
 pub use Rattle.std.specs.List.{HoldsAt, items_where_true, list_any}
 pub use Rattle.std.specs.List.Retain.{IsFiltered}
 pub use Rattle.std.specs.Option.{option_map}
-pub use Rattle.std.specs.Prelude.{All, AllPairs, Bool, Contains, IfSome, IsTrue, List, None, Option, Some, [], bytes_eq, cond, drop, false, filter, get_or, is_some, length, map, min, not, option_to_list, replicate, set, slice_get, take, true, ℕ, ◌&&◌, ◌++◌, ◌+◌, ◌-◌, ◌<◌, ◌==◌, ◌||◌, ◌↔◌, ◌∷◌, ◌≡◌, ◌≢◌, ◌≤◌, ◌⊎◌}
+pub use Rattle.std.specs.Prelude.{All, AllPairs, Bool, Contains, IsTrue, List, None, Option, Some, [], bytes_eq, cond, drop, false, filter, get_or, length, map, min, not, option_to_list, replicate, set, slice_get, take, true, ℕ, ◌&&◌, ◌++◌, ◌+◌, ◌-◌, ◌<◌, ◌==◌, ◌||◌, ◌↔◌, ◌∷◌, ◌≡◌, ◌≢◌, ◌≤◌, ◌⊎◌}
 pub use Rattle.std.specs.Vec.{vec_len}
 pub use Rattle.std.specs.declared.cmp.Ordering.TheVariants.{Equal}
 pub use Rattle.sip_key.proofs.AckOfLemmas.{ack-of_says}
@@ -52,7 +51,7 @@ pub use Rattle.sip_message.proofs.lemmas.says.Reading.{same_reading, says-no_fau
 pub use Rattle.sip_message.specs.Reading.{Reading}
 pub use Rattle.sip_message.specs.Reads.{Reads}
 pub use Rattle.sip_message.specs.SaidOf.{said_of}
-pub use Rattle.sip_phases.proofs.debts.DebtLaws.{All-back, All-front, IsWithoutFirst-alike, filter-map}
+pub use Rattle.sip_phases.proofs.debts.DebtLaws.{IsWithoutFirst-alike, filter-map}
 pub use Rattle.sip_phases.proofs.debts.OwesLaws.{All-names, payables-seen}
 pub use Rattle.sip_standard.proofs.Few.{AllPairs-head, AllPairs-tail}
 pub use Rattle.sip_standard.specs.AckOf.{AckOf, IsAckOf, SameSolid}

@@ -74,8 +74,7 @@ impl Dues {
         rows!(&self.rows, accounts => Some(&**accounts), _ => None)
     }
 
-    /// The message of the row's first debt that a send of one of these messages pays at the moment, if there is one. These messages are all that
-    /// have something in common, and so the first of them is the key under which they are asked for again.
+    /// The message of the row's first debt that a send of one of these messages pays at the moment, if there is one.
     pub(crate) fn first_payable(
         &mut self,
         row: usize,
@@ -86,8 +85,7 @@ impl Dues {
         ensures same { self.new ≡ self.old }
         ensures first { IfOk result (IsFirstPaid (PaysSome (numbers_of messages.now) moment) moment (owed_in self.old row)) }
     {
-        let key = messages.next_in_both(messages, 0).unwrap_or(0);
-        rows!(&mut self.rows, accounts => accounts.first_payable(row, key, messages, moment), _ => Ok(None))
+        rows!(&mut self.rows, accounts => accounts.first_payable(row, messages, moment), _ => Ok(None))
     }
 
     /// How many rows there are.
@@ -252,21 +250,9 @@ impl Dues {
         rows!(&self.rows, accounts => accounts.same(row, other), _ => true)
     }
 
-    /// A number for what each row from `from` on owes. Rows that owe the same have the same number, and others hardly ever.
-    pub(crate) fn prints(&self, alloc: Global, from: usize) -> Result<Vec<u64>, AllocError>
-        requires { from ≤ length self.now }
-        ensures { IfOk result (λ prints. ArePrints self.now from prints.items) }
-    {
-        rows!(&self.rows, accounts => Ok(accounts.prints(alloc, from)?), count => {
-            // Rows that owe nothing have the same print.
-            let mut prints = Vec::new(alloc);
-            prints.resize(*count - from, 0)?;
-            Ok(prints)
-        })
-    }
-
-    /// Such numbers, in which the order of the first debts of each row counts too, of so many at most.
-    pub(crate) fn front_prints(
+    /// A number for what each row from `from` on owes, in which the order of its first debts counts too, of so many at most. Rows that owe the same have the
+    /// same number, and others hardly ever, but where they owe the same in another order after these.
+    pub(crate) fn prints(
         &self,
         alloc: Global,
         from: usize,
@@ -275,7 +261,12 @@ impl Dues {
         requires { from ≤ length self.now }
         ensures { IfOk result (λ prints. ArePrints self.now from prints.items) }
     {
-        rows!(&self.rows, accounts => Ok(accounts.front_prints(alloc, from, most)?), _ => self.prints(alloc, from))
+        rows!(&self.rows, accounts => Ok(accounts.prints(alloc, from, most)?), count => {
+            // Rows that owe nothing have the same print.
+            let mut prints = Vec::new(alloc);
+            prints.resize(*count - from, 0)?;
+            Ok(prints)
+        })
     }
 
     /// Puts the number of the message of each debt of the row after those in the vector. On an error the vector is as before.

@@ -227,24 +227,22 @@ impl<P: Phase> Pool<P> {
     }
 
     /// The indices of the states from `from` on, of equal ones that of the first alone, found by a look at those of the same print. Where many states owe the
-    /// same in other orders, these are looked at in vain. Then the order of what is owed first counts in the prints too, of more and
-    /// more debts.
+    /// same in other orders, these are looked at in vain. Then the order of what is owed first counts in the prints too, of more and more debts.
     #[inline(never)]
     fn first_of_many(&self, from: usize) -> Result<Vec<usize>, AllocError>
         requires { from ≤ length self.now }
         ensures { IfOk result (λ rows. AreFirstOnes self.now from (length self.now) rows.items) }
     {
-        let mut prints = self.prints(from)?;
         let mut looks = FEW_LOOKS;
-        let mut debts = FEW_DEBTS;
+        let mut debts = 0;
         for _turn in 0..usize::MAX {
+            let prints = self.prints(from, debts)?;
             if let Some(rows) = self.first_by(from, &prints, looks)? {
                 return Ok(rows);
             }
-            prints = self.front_prints(from, debts)?;
+            debts = debts.saturating_mul(4).max(FEW_DEBTS);
             // As many looks in vain as take the time of the walk.
             looks = prints.len().saturating_mul(debts) / DEBTS_OF_A_LOOK;
-            debts = debts.saturating_mul(4);
         }
         // No set has as many states as a number can count.
         Err(AllocError)
@@ -321,41 +319,22 @@ impl<P: Phase> Pool<P> {
         false
     }
 
-    /// A number for each state from `from` on. Equal states have the same number, and others hardly ever, but where they owe the same in another order.
+    /// A number for each state from `from` on, in which the order of what it owes first counts too, of so many debts at most. Equal states have the same
+    /// number, and others hardly ever, but where they owe the same in another order after these.
     #[inline(never)]
-    fn prints(&self, from: usize) -> Result<Vec<u64>, AllocError>
+    fn prints(&self, from: usize, most: usize) -> Result<Vec<u64>, AllocError>
         requires { from ≤ length self.now }
         ensures { IfOk result (λ prints. ArePrints self.now from prints.items) }
     {
-        let mut prints = self.dues.prints(*self.phases.allocator(), from)?;
-        self.mix_phases(from, &mut prints);
-        Ok(prints)
-    }
-
-    /// Such numbers, in which the order of what each state owes first counts too, of so many debts at most.
-    fn front_prints(&self, from: usize, most: usize) -> Result<Vec<u64>, AllocError>
-        requires { from ≤ length self.now }
-        ensures { IfOk result (λ prints. ArePrints self.now from prints.items) }
-    {
-        let alloc = *self.phases.allocator();
-        let mut prints = self.dues.front_prints(alloc, from, most)?;
-        self.mix_phases(from, &mut prints);
-        Ok(prints)
-    }
-
-    /// Mixes the hashes of the phases into the numbers of what the states from `from` on owe.
-    fn mix_phases(&self, from: usize, prints: &mut [u64])
-        requires from { from ≤ length self.now }
-        requires prints { ArePrints (map (λ x. x.owes) self.now) from prints.old }
-        ensures { ArePrints self.now from prints.new }
-    {
+        let mut prints = self.dues.prints(*self.phases.allocator(), from, most)?;
         let mut at = from;
         while at < self.len() {
             let end = self.run_end(at, self.len());
             let hash = hash_of(&self.phases[at]);
-            mix(prints, at - from, end - from, hash);
+            mix(&mut prints, at - from, end - from, hash);
             at = end;
         }
+        Ok(prints)
     }
 
     /// The end of the states from `at` on that are in the phase of the one at `at`: one past the last of them, `limit` at most.

@@ -6,7 +6,7 @@ use Rattle.sip_ledger.proofs.debts.ListedLemmas.{listed-counting, listed-same, l
 use Rattle.sip_ledger.proofs.account.AccountLemmas.{empty-debts, kept-start, past-end, soft-must}
 use Rattle.sip_ledger.proofs.account.WithoutLemmas.{before-start}
 use Rattle.sip_ledger.proofs.lists.EachLemmas.{changing, changing-front, changing-length, changing-more, changing-all, unchanged-each, from_to-end, passing-more}
-use Rattle.sip_ledger.proofs.rows.SeenLemmas.{changed-by, on-error, over-to, unchanged, account-at, can-pay}
+use Rattle.sip_ledger.proofs.rows.SeenLemmas.{changed, on-error, over-to, unchanged, account-at, can-pay}
 use Rattle.sip_ledger.proofs.debts.OwedLemmas.{unpaid-is}
 use Rattle.sip_ledger.proofs.account.FindLemmas.{paid-account, unpaid-account}
 
@@ -27,7 +27,7 @@ module _ {debt : Debt} {from k : ℕ} {old : List (List Debt)} {gains : Gains} {
 
   -- HaveGained stays true over more strikes
   pub gained-grown : (new : List Strike) → take (length strikes) new ≡ strikes → HaveGained debt from k old gains strikes rows → HaveGained debt from k old gains new rows
-  gained-grown new kept are = let all = unchanged new kept are.accounts are.debts in grind (arith, all)
+  gained-grown new kept are = let all = unchanged new kept are.accounts in grind (arith, all)
 
   -- HaveGained stays true with one row more that gains the debt
   pub gained-more : (new : List Strike) (a b : Account) → take (length strikes) new ≡ strikes → HaveGained debt from k old gains strikes rows → from ≤ k → k < length old →
@@ -35,8 +35,9 @@ module _ {debt : Debt} {from k : ℕ} {old : List (List Debt)} {gains : Gains} {
       HaveGained debt from (k + 1) old gains new (set rows k b)
   gained-more new a b kept are low within is account debts =
       let inside : k < length (changing (with_debt debt) from k old) = omega (arith, within, changing-length (with_debt debt) from k old low) in
-      let all = changed-by (with_debt debt) new k a b kept are.accounts are.debts inside is account debts in
-      record { accounts = all.0; debts = all.1 ∙ changing-more (with_debt debt) from k old [] low within }
+      let at = account-at k a are.accounts are.debts inside is in
+      let all = changed new k b kept are.accounts account in
+      record { accounts = all.0; debts = grind (arith, all, at, are.debts, changing-more (with_debt debt) from k old [] low within) }
 
 -- where no debt is past, none goes
 kept-late : (t : ℕ) (xs : List Debt) → All (λ d. t ≤ d.deadline) xs → filter (counts_at t) xs ≡ xs
@@ -105,7 +106,7 @@ module _ {gains : Gains} {message t from k : ℕ} {old : List (List Debt)} {stri
 
   -- ArePaidTo stays true where strikes are put after the others
   pub paid-grown : (new : List Strike) → take (length strikes) new ≡ strikes → ArePaidTo gains message t from k old strikes rows → ArePaidTo gains message t from k old new rows
-  paid-grown new kept are = let all = unchanged new kept are.accounts are.debts in grind (arith, all)
+  paid-grown new kept are = let all = unchanged new kept are.accounts in grind (arith, all)
 
   -- ArePaidTo goes on with the next row, which is put after the others if it is paid
   pub paid-next : (owes : List Debt) (left : Option Account) → ArePaidTo gains message t from k old strikes rows → IfSome left (IsAccount gains strikes) →

@@ -17,35 +17,31 @@ pub on-err : {T E : Type 0} (r : Result T E) (P : Type 0) → is_err r ≡ true 
 on-err (Ok x) P is p = absurd (true≢false (sym is))
 on-err (Err e) P is p = p
 
--- What follows is of accounts, and the debts as which contracts see them.
-module _ {gains : Gains} {strikes : List Strike} {rows : List Account} {seen : List (List Debt)} where
-  -- what stands in a row is an account, and its debts are those that contracts see there
-  pub account-at : (row : ℕ) (a : Account) → AreAccounts gains strikes rows → accounts_debts gains strikes rows ≡ seen → row < length seen → a ≡ get_or rows row a →
-      IsAccount gains strikes a × (account_debts gains strikes a ≡ owed_in seen row)
-  account-at row a are view inside is =
-      let within : row < length rows = omega (arith, inside, ap length view, length-map rows (account_debts gains strikes)) in (
-        subst (IsAccount gains strikes) (sym is) (All-get_or (IsAccount gains strikes) rows row a within are.each),
-        ap (account_debts gains strikes) is ∙ sym (get_or-map (account_debts gains strikes) rows row a [] within) ∙ ap (λ owes. owed_in owes row) view,
-      )
+-- what stands in a row is an account, and its debts are those that contracts see there
+pub account-at : {gains : Gains} {strikes : List Strike} {rows : List Account} {seen : List (List Debt)} (row : ℕ) (a : Account) → AreAccounts gains strikes rows →
+    accounts_debts gains strikes rows ≡ seen → row < length seen → a ≡ get_or rows row a → IsAccount gains strikes a × (account_debts gains strikes a ≡ owed_in seen row)
+account-at {gains} {strikes} {rows} row a are view inside is =
+    let within : row < length rows = omega (arith, inside, ap length view, length-map rows (account_debts gains strikes)) in (
+      subst (IsAccount gains strikes) (sym is) (All-get_or (IsAccount gains strikes) rows row a within are.each),
+      ap (account_debts gains strikes) is ∙ sym (get_or-map (account_debts gains strikes) rows row a [] within) ∙ ap (λ owes. owed_in owes row) view,
+    )
 
-  -- where an account of a row becomes one whose debts are its by f, contracts see the row changed by f
-  pub changed-by : (f : List Debt → List Debt) (new : List Strike) (row : ℕ) (a b : Account) → take (length strikes) new ≡ strikes →
-      AreAccounts gains strikes rows → accounts_debts gains strikes rows ≡ seen → row < length seen → a ≡ get_or rows row a →
-      IsAccount gains new b → account_debts gains new b ≡ f (account_debts gains strikes a) →
-      AreAccounts gains new (set rows row b) × (accounts_debts gains new (set rows row b) ≡ set seen row (f (owed_in seen row)))
-  changed-by f new row a b kept are view inside is account debts =
-      let at = account-at row a are view inside is in
-      grind (arith, kept-all gains strikes new rows kept, All-set (IsAccount gains new) rows row b account, at, map-set)
+-- What follows is of accounts that stay, but for one of them, over more strikes or gains.
+module _ {gains : Gains} {strikes : List Strike} {rows : List Account} where
+  -- where an account comes in the place of one, it owes there what it owes, and the others owe what they owed
+  pub changed : (new : List Strike) (row : ℕ) (b : Account) → take (length strikes) new ≡ strikes → AreAccounts gains strikes rows → IsAccount gains new b →
+      AreAccounts gains new (set rows row b) × (accounts_debts gains new (set rows row b) ≡ set (accounts_debts gains strikes rows) row (account_debts gains new b))
+  changed new row b kept are account = grind (arith, kept-all gains strikes new rows kept, All-set (IsAccount gains new) rows row b account, map-set)
 
-  -- where no account changes, and the strikes may have grown, contracts see the same rows
+  -- where no account changes, and the strikes may have grown, all owe what they owed
   pub unchanged : (new : List Strike) → take (length strikes) new ≡ strikes → AreAccounts gains strikes rows →
-      accounts_debts gains strikes rows ≡ seen → AreAccounts gains new rows × (accounts_debts gains new rows ≡ seen)
-  unchanged new kept are view = let all = kept-all gains strikes new rows kept are.each in grind (arith, all)
+      AreAccounts gains new rows × (accounts_debts gains new rows ≡ accounts_debts gains strikes rows)
+  unchanged new kept are = let all = kept-all gains strikes new rows kept are.each in grind (arith, all)
 
-  -- where the gains may have grown, contracts see the same rows
-  pub over-to : (new : Gains) → KeepsAccounts gains new → AreGains new → AreAccounts gains strikes rows → accounts_debts gains strikes rows ≡ seen →
-      AreAccounts new strikes rows × (accounts_debts new strikes rows ≡ seen)
-  over-to new keeps gained are view = let all = keeps.each strikes rows are.each in (record { gained = gained; each = all.0 }, all.1 ∙ view)
+  -- where the gains may have grown, all owe what they owed
+  pub over-to : (new : Gains) → KeepsAccounts gains new → AreGains new → AreAccounts gains strikes rows →
+      AreAccounts new strikes rows × (accounts_debts new strikes rows ≡ accounts_debts gains strikes rows)
+  over-to new keeps gained are = let all = keeps.each strikes rows are.each in (record { gained = gained; each = all.0 }, all.1)
 
 -- the debts of a softened account are the softened ones
 soft-debts : (gains : Gains) (strikes : List Strike) (a : Account) (place : ℕ) → a.end ≤ place →
@@ -97,6 +93,9 @@ can-pay gains strikes a message t None is some none = grind (arith, nat_tests, l
 
 -- lemmas for the prover under one name: what contracts see of rows of which one changes or comes
 pub ruleset of_changed_row = (nat_tests, common_steps, account-at, map-set, map-append, All-set, All-push, length-map, empty-account, empty-debts)
+
+-- lemmas for the prover under one name: what contracts see of rows of which one owes something else
+pub ruleset of_other_row = (nat_tests, common_steps, account-at, changed, unchanged, on-error)
 
 -- lemmas for the prover under one name: what contracts see of rows, by their accounts
 pub ruleset of_rows = (length-map, account-at, All-cons, All-nil, can-pay, on-err, on-error, over-to, unchanged, All-take, take-map, All-drop, drop-map, drop_min)

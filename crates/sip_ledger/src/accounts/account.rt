@@ -216,12 +216,11 @@ pub(crate) fn find_first(
 }
 
 /// What `find_first` finds, however many the messages are. Where the first of them does not tell, it is asked at which place of all one of them is left
-/// first: for the same key, those that were left the last time are not gone through again.
+/// first: those that were left the last time are not gone through again.
 pub(crate) fn find_some(
     gains: &mut Gains,
     strikes: &[Strike],
     account: Account,
-    key: u64,
     messages: &Numbers,
     moment: u64,
 ) -> Result<Option<usize>, AllocError>
@@ -235,7 +234,7 @@ pub(crate) fn find_some(
         return Ok(found);
     }
     let alloc = *gains.entries.allocator();
-    if let Some((place, message)) = gains.messages.first_among(alloc, key, messages)? {
+    if let Some((place, message)) = gains.messages.first_among(alloc, messages)? {
         let place = place as usize;
         if owes(gains, strikes, account, place)
             && moment <= gains.entry(place).deadline

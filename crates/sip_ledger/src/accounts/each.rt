@@ -1,6 +1,6 @@
 //! What is done to many rows at once.
 ghost use Rattle.std.specs.Prelude.{◌≡◌, ◌<◌, ◌≤◌, ◌++◌, ◌∷◌, ◌+◌, ◌-◌};
-ghost use Rattle.sip_ledger.specs.inner.Words.{[], ℕ, IfOk, IfSome, OnOk, OnErr, drop, filter, get_or, length, map, option_to_list, take, debts_print, front_print, owed_in, paid_rows, counts_at, is_timely, from_to, AreAccounts, AreGains, IsAccount, IsSeek, account_debts, accounts_debts};
+ghost use Rattle.sip_ledger.specs.inner.Words.{[], ℕ, IfOk, IfSome, OnOk, OnErr, drop, filter, get_or, length, map, option_to_list, take, front_print, owed_in, paid_rows, counts_at, is_timely, from_to, AreAccounts, AreGains, IsAccount, IsSeek, account_debts, accounts_debts};
 
 use crate::accounts::Accounts;
 use crate::accounts::account::{
@@ -69,26 +69,9 @@ impl Accounts {
         Ok(())
     }
 
-    /// A number for what each row from one on owes, in their order: rows that owe the same have the same, and others hardly ever.
-    pub fn prints(&self, alloc: Global, from: usize) -> Result<Vec<u64>, AllocError>
-        ensures long { IfOk result (λ prints. length prints.items ≡ length self.now - from) }
-        ensures each { IfOk result (λ prints. (k : ℕ) → from + k < length self.now → get_or prints.items k 0 ≡ debts_print (owed_in self.now (from + k))) }
-    {
-        let mut prints = Vec::with_capacity(alloc, self.len().saturating_sub(from))?;
-        for row in from..self.len() {
-            prints.push_reserved(self.rows[row].print);
-        }
-        Ok(prints)
-    }
-
-    /// A number for what each row from one on owes, in their order, in which the order of its first debts counts too, of so many at most. Rows that owe the same
-    /// have the same, and others hardly ever, but where they owe the same in another order after these.
-    pub fn front_prints(
-        &self,
-        alloc: Global,
-        from: usize,
-        most: usize,
-    ) -> Result<Vec<u64>, AllocError>
+    /// A number for what each row from one on owes, in their order. The order of its first debts counts too, of so many at most. Rows that owe the same have
+    /// the same, and others hardly ever, but where they owe the same in another order after these.
+    pub fn prints(&self, alloc: Global, from: usize, most: usize) -> Result<Vec<u64>, AllocError>
         ensures long { IfOk result (λ prints. length prints.items ≡ length self.now - from) }
         ensures each { IfOk result (λ prints. (k : ℕ) → from + k < length self.now → get_or prints.items k 0 ≡ front_print most (owed_in self.now (from + k))) }
     {

@@ -16,7 +16,7 @@ pub(crate) struct Places {
     pairs: BTreeSet<(u64, u64)>,
     messages: Numbers,
     places: Numbers,
-    /// Messages that were asked for together, under a key.
+    /// Messages that were asked for together, under the least of them.
     queues: BTreeMap<u64, Queue>,
     /// No place is this one or a later one.
     end: u64,
@@ -116,17 +116,17 @@ impl Places {
         messages.next_in_both(&self.messages, from)
     }
 
-    /// The first place of all at which one of these messages is left, with the message that is left there, if that is known. Where these messages were asked
-    /// for with the same key before, those that were left then stand in a queue, and are not looked at again.
+    /// The first place of all at which one of these messages is left, with the message that is left there, if that is known. Where they were asked for before,
+    /// or others with the same least message, those that were left then stand in a queue, and are not looked at again.
     pub(crate) fn first_among(
         &mut self,
         alloc: Global,
-        key: u64,
         messages: &Numbers,
     ) -> Result<Option<(u64, u64)>, AllocError>
         ensures same { self.new ≡ self.old }
         ensures first { IfOk result (λ found. IfSome found (IsFirstHeld self.old (numbers_of messages.now))) }
     {
+        let key = messages.next_in_both(messages, 0).unwrap_or(0);
         let mut queue = self.queues.remove(&key).unwrap_or(Queue::new(alloc));
         let first = self.head(messages, &mut queue)?;
         // Queues that are asked for no more go, where there are more of them than places.

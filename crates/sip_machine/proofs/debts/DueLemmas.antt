@@ -1,7 +1,8 @@
 -- What many states owe: what a send takes out of the debts of one state, and states that owe nothing.
 use Prim.Native.Nat.{suc, zero}
+use Rattle.std.proofs.lemmas.Bool.{cond_both}
 use Rattle.std.proofs.lemmas.List.{set-set}
-use Rattle.sip_machine.proofs.Words.{take_min, take-replicate, length-replicate, ◌≤◌, ◌≡◌, ◌<◌, ◌||◌, ℕ, Bool, true, false, IsTrue, List, [], ◌∷◌, ◌++◌, All, filter, length, min, set, take, list_any, refl, sym, ◌∙◌, ap, ap₂, arith, cond, true≢false, list_any_at, All-nil, All-cons, filter-append, get_or-set_same, set-get_or, Debt, counts_at, is_payable, paid_by, IsWithoutFirst, owed_in, blank_rows}
+use Rattle.sip_machine.proofs.Words.{nat_tests, take_all, take-replicate, length-replicate, ◌≤◌, ◌≡◌, ◌<◌, ◌||◌, ℕ, true, false, IsTrue, List, [], ◌∷◌, ◌++◌, All, filter, length, min, set, take, list_any, refl, sym, ◌∙◌, ap, ap₂, arith, true≢false, list_any_at, All-nil, All-cons, filter-append, get_or-set_same, set-get_or, Debt, counts_at, is_payable, paid_by, IsWithoutFirst, owed_in, blank_rows}
 
 -- What follows is of a send of one message at the moment t, which can pay one of the debts, or none.
 module _ (message t : ℕ) where
@@ -9,28 +10,24 @@ module _ (message t : ℕ) where
   abbrev Pays : Debt → Type 0
   Pays debt = IsTrue (is_payable message t debt)
 
-  -- where a send can pay a debt or one of those after it, it takes the first that it can pay out of all; b says whether it can pay the debt itself
-  some-step : (debt : Debt) (debts : List Debt) (b : Bool) → is_payable message t debt ≡ b → (b || list_any (is_payable message t) debts) ≡ true →
-      (list_any (is_payable message t) debts ≡ true → IsWithoutFirst Pays debts (paid_by message t debts)) → IsWithoutFirst Pays (debt ∷ debts) (paid_by message t (debt ∷ debts))
-  some-step debt debts true is any more =
-      record { before = []; first = debt; after = debts; whole = refl; holds = is; none_before = All-nil (λ x. ¬ (Pays x)); rest = ap (λ b. cond b debts (debt ∷ paid_by message t debts)) is }
-  some-step debt debts false is any more =
-      let a = more any in
+  -- where a send can pay one of the debts, it takes the first that it can pay out of them
+  pub pays-some : (debts : List Debt) → list_any (is_payable message t) debts ≡ true → IsWithoutFirst Pays debts (paid_by message t debts)
+  pays-some [] any = absurd (true≢false (sym any))
+  pays-some (debt ∷ debts) any =
+      cond_both (is_payable message t debt) debts (debt ∷ paid_by message t debts) (IsWithoutFirst Pays (debt ∷ debts))
+      (λ is. record { before = []; first = debt; after = debts; whole = refl; holds = is; none_before = All-nil (λ x. ¬ (Pays x)); rest = refl })
+      (λ is.
+      -- the debt stands before the first that is paid, and else all is as in the list after it
+      let a = pays-some debts (sym (ap (λ b. b || list_any (is_payable message t) debts) is) ∙ any) in
       record {
-        -- the debt stands before the first that is paid, and else all is as in the list after it
         before = debt ∷ a.before;
         first = a.first;
         after = a.after;
         whole = ap (λ ds. debt ∷ ds) a.whole;
         holds = a.holds;
         none_before = All-cons (λ x. ¬ (Pays x)) debt a.before (λ pays. true≢false (sym pays ∙ is)) a.none_before;
-        rest = ap (λ b. cond b debts (debt ∷ paid_by message t debts)) is ∙ ap (λ ds. debt ∷ ds) a.rest;
-      }
-
-  -- where a send can pay one of the debts, it takes the first that it can pay out of them
-  pub pays-some : (debts : List Debt) → list_any (is_payable message t) debts ≡ true → IsWithoutFirst Pays debts (paid_by message t debts)
-  pays-some [] any = absurd (true≢false (sym any))
-  pays-some (debt ∷ debts) any = some-step debt debts (is_payable message t debt) refl any (pays-some debts)
+        rest = ap (λ ds. debt ∷ ds) a.rest;
+      })
 
   -- where the test finds no payable debt, none of the debts is payable
   pub pays-none : (debts : List Debt) → list_any (is_payable message t) debts ≡ false → All (λ x. ¬ (Pays x)) debts
@@ -55,10 +52,7 @@ set_none count row debts is = sym (set-get_or (blank_rows count) row []) ∙ ap 
 
 -- without accounts, the first n rows owe nothing
 pub take_none : (count n : ℕ) → blank_rows (min count n) ≡ take n (blank_rows count)
-take_none count n =
-    let same : min count n ≡ min n (length (blank_rows count)) = omega (arith, length-replicate {A = List Debt} count []) in
-    let fits : min count n ≤ count = omega arith in
-    sym (take-replicate (min count n) count [] fits) ∙ ap (λ m. take m (blank_rows count)) same ∙ take_min n (blank_rows count)
+take_none count n = grind (arith, nat_tests, take-replicate, take_all, length-replicate)
 
 -- a row that is changed and then changed again is as if it was changed once, to what the second change makes of the first
 pub set_again : (rows : List (List Debt)) (row : ℕ) (debts : List Debt) (f : List Debt → List Debt) → row < length rows →

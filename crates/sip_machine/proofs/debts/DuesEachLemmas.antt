@@ -1,6 +1,6 @@
 -- What many states owe, changed at once.
 use Prim.Native.Nat.{suc, zero}
-use Rattle.sip_machine.proofs.Words.{◌≡◌, ◌≤◌, ◌+◌, ◌-◌, ℕ, Bool, true, false, List, [], ◌∷◌, ◌++◌, drop, filter, length, map, take, refl, sym, ◌∙◌, ap, ap₂, arith, cond, list_any, is_payable, ◌&&◌, append-nil, nat_tests, drop-replicate, length-replicate, replicate-append-replicate, take-append-drop, take-replicate, All, All-drop, All-nil, All-replicate, None, map_fixed, subst, Debt, IsFirstPaid, paid_rows, is_timely, from_to, blank_rows, owed_in}
+use Rattle.sip_machine.proofs.Words.{◌≡◌, ◌≤◌, ◌+◌, ◌-◌, ℕ, Bool, true, false, List, [], ◌∷◌, ◌++◌, drop, filter, length, map, take, refl, sym, ap, ap₂, arith, cond, list_any, is_payable, ◌&&◌, append-nil, nat_tests, drop-replicate, length-replicate, replicate-append-replicate, take-append-drop, take-replicate, All, All-drop, All-nil, All-replicate, None, map_fixed, subst, Debt, IsFirstPaid, paid_rows, is_timely, from_to, blank_rows, owed_in}
 use Rattle.sip_machine.proofs.debts.DueLemmas.{owed-none, set_none, take_none}
 use Rattle.sip_machine.proofs.debts.NamesLemmas.{owed-appends}
 
@@ -22,10 +22,8 @@ mapped-none f count from is =
 
 -- rows that owe nothing all pass the test, or none does; b says whether one passes it
 passing : (p : List Debt → Bool) (n : ℕ) (b : Bool) → p [] ≡ b → filter p (blank_rows n) ≡ blank_rows (cond b n 0)
-passing p zero true is = refl
-passing p zero false is = refl
-passing p (suc n) true is = ap (λ b. cond b ([] ∷ filter p (blank_rows n)) (filter p (blank_rows n))) is ∙ ap (λ rows. [] ∷ rows) (passing p n true is)
-passing p (suc n) false is = ap (λ b. cond b ([] ∷ filter p (blank_rows n)) (filter p (blank_rows n))) is ∙ passing p n false is
+passing p zero b is = grind (arith, nat_tests)
+passing p (suc n) b is = grind (arith, nat_tests, passing p n b is)
 
 -- of rows that owe nothing, the timely ones from one index up to another, put after the others, are as many such rows more: all are timely
 pub timely-none : (t count from to : ℕ) → to ≤ count →

@@ -1,6 +1,6 @@
 -- The states of a pool, many of which take the same step.
-use Rattle.sip_machine.proofs.Words.{nat_tests, ◌≡◌, ◌<◌, ◌≤◌, ◌+◌, ◌-◌, ℕ, Bool, List, [], ◌∷◌, ◌++◌, All, drop, filter, get_or, length, map, replicate, take, refl, sym, ◌∙◌, ap, ap₂, arith, length-append, drop-append_seam, take-append_seam, drop-append-le, drop-map, length-drop, length-map, length-take-le, All-get_or, take-map, take_more, All-filter, All-head, All-push, All-tail, Debt, from_to, CodeOwing, filter-map, owed_in, picked, beside}
-use Rattle.sip_machine.proofs.pools.PoolLemmas.{beside-append, beside-at}
+use Rattle.sip_machine.proofs.Words.{nat_tests, ◌≡◌, ◌<◌, ◌≤◌, ◌+◌, ℕ, Bool, List, [], ◌∷◌, ◌++◌, All, drop, filter, get_or, length, map, replicate, take, refl, sym, ◌∙◌, ap, ap₂, arith, drop-append-le, drop-map, length-drop, length-map, length-take-le, All-get_or, take-map, take_more, All-filter, All-tail, Debt, from_to, CodeOwing, filter-map, owed_in, picked, beside}
+use Rattle.sip_machine.proofs.pools.PoolLemmas.{beside-append, beside-at, owes-beside}
 use Rattle.sip_machine.proofs.pools.CoversLemmas.{slice-get}
 
 -- What follows is of parts of a list, from one index up to another.
@@ -11,17 +11,9 @@ module _ {X : Type 0} where
       let size = length-take-le k xs (omega (arith, low)) in
       ap (drop from) (take_more xs k d low) ∙ drop-append-le from (take k xs) (get_or xs k d ∷ []) (omega (arith, le, size))
 
-  -- what holds up to a place, and of the element there, holds up to one place further
-  pub some-more : (P : X → Type 0) (at k : ℕ) (xs : List X) (d : X) → at ≤ k → k < length xs → All P (from_to at k xs) → P (get_or xs k d) → All P (from_to at (k + 1) xs)
-  some-more P at k xs d le low all p = rw (from_to-more at k xs d le low) (All-push P (from_to at k xs) (get_or xs k d) all p)
-
   -- what holds of all elements from one index up to another holds of the element at an index between
   pub some-at : (P : X → Type 0) (from to k : ℕ) (xs : List X) (d : X) → to ≤ length xs → from ≤ k → k < to → All P (from_to from to xs) → P (get_or xs k d)
   some-at P from to k xs d within low high all = grind (arith, nat_tests, slice-get, length-drop, length-take-le, All-get_or)
-
--- what f gives of the elements from one index up to another is what it gives of all, from the one up to the other
-from_to-map : {X Y : Type 0} (f : X → Y) (from to : ℕ) (xs : List X) → from_to from to (map f xs) ≡ map f (from_to from to xs)
-from_to-map f from to xs = ap (drop from) (take-map f to xs) ∙ drop-map f from (take to xs)
 
 -- What follows is of phases beside the rows of what is owed, as the states of a pool.
 module _ {S : Type 0} where
@@ -30,14 +22,7 @@ module _ {S : Type 0} where
       beside (replicate (length xs) q) (map g (map (λ x. x.owes) xs)) ≡ map h xs
   beside-each q g h [] same = refl
   beside-each q g h (x ∷ xs) same =
-      ap₂ (λ y ys. y ∷ ys) (All-head (λ x. record { phase = q; owes = g x.owes } ≡ h x) x xs same) (beside-each q g h xs (All-tail (λ x. record { phase = q; owes = g x.owes } ≡ h x) x xs same))
-
-  -- what the states of phases beside rows owe is the rows
-  owes-beside : (phases : List S) (rows : List (List Debt)) → length rows ≡ length phases → rows ≡ map (λ (x : CodeOwing S). x.owes) (beside phases rows)
-  owes-beside [] [] long = refl
-  owes-beside [] (row ∷ rows) long = absurd (omega (arith, long))
-  owes-beside (phase ∷ phases) [] long = absurd (omega (arith, long))
-  owes-beside (phase ∷ phases) (row ∷ rows) long = ap (λ rs. row ∷ rs) (owes-beside phases rows (omega (arith, long)))
+      ap₂ (λ y ys. y ∷ ys) (same 0 x (omega arith)) (beside-each q g h xs (All-tail (λ x. record { phase = q; owes = g x.owes } ≡ h x) x xs same))
 
   -- where copies of some rows come after the others, each changed by g, and the phase q for each, the states are the old ones and those that h gives
   pub pushed-is : (q : S) (g : List Debt → List Debt) (h : CodeOwing S → CodeOwing S) (p : List Debt → Bool) (phases : List S) (rows : List (List Debt)) (xs : List (CodeOwing S)) (from to n : ℕ) →
@@ -49,7 +34,7 @@ module _ {S : Type 0} where
       let some = filter (λ x. p x.owes) (from_to from to xs) in
       -- the rows of the states that pass are the rows that pass
       let rows_are : filter p (from_to from to rows) ≡ map owes some
-      = ap (λ rs. filter p (from_to from to rs)) (owes-beside phases rows long ∙ ap (map owes) is) ∙ ap (filter p) (from_to-map owes from to xs) ∙ filter-map owes p (from_to from to xs) in
+      = ap (λ rs. filter p (from_to from to rs)) (sym (owes-beside phases rows long) ∙ ap (map owes) is) ∙ simp (take-map, drop-map, filter-map) in
       let count : n ≡ length some = size ∙ length-map (filter p (from_to from to rows)) g ∙ ap length rows_are ∙ length-map some owes in
       -- the new rows stand beside the one phase
       beside-append phases (replicate n q) rows (map g (filter p (from_to from to rows))) long
@@ -61,14 +46,4 @@ module _ {S : Type 0} where
       beside (picked phases x.phase kept) (map (owed_in rows) kept) ≡ picked (beside phases rows) x kept
   beside-picked phases rows [] x within = refl
   beside-picked phases rows (row ∷ kept) x within =
-      ap₂ (λ y ys. y ∷ ys) (sym (beside-at phases rows row x.phase x (All-head (λ row. row < length phases) row kept within)))
-      (beside-picked phases rows kept x (All-tail (λ row. row < length phases) row kept within))
-
--- where g changes each row after the first n of the new ones, the rows after the old ones are changed
-pub mapped-behind : (g : List Debt → List Debt) (rows more new after : List (List Debt)) (n : ℕ) → new ≡ rows ++ more → n ≡ length rows →
-    after ≡ take n new ++ map g (drop n new) → after ≡ rows ++ map g more
-mapped-behind g rows more new after n is at changed = grind (arith, take-append_seam, drop-append_seam)
-
--- how many rows stand after the old ones is how many were put there
-pub behind-size : (rows more new : List (List Debt)) (n : ℕ) → new ≡ rows ++ more → n ≡ length new → n - length rows ≡ length more
-behind-size rows more new n is size = grind (arith, nat_tests, length-append)
+      ap₂ (λ y ys. y ∷ ys) (sym (beside-at phases rows row x.phase x (within 0 row (omega arith)))) (beside-picked phases rows kept x (All-tail (λ row. row < length phases) row kept within))

@@ -1,8 +1,8 @@
 -- The states of a pool: a list of phases and a list of what is owed, read as one list.
 use Prim.Native.Nat.{suc, zero}
 use Rattle.std.specs.List.{copy_within}
-use Rattle.std.proofs.lemmas.List.{nil_from_length}
-use Rattle.sip_machine.proofs.Words.{◌≡◌, ◌<◌, ◌≤◌, ℕ, List, [], ◌∷◌, ◌++◌, drop, get_or, length, map, set, take, HoldsAt, refl, sym, ◌∙◌, ap, ap₂, subst, arith, nat_tests, get_or-append_seam, take-append_seam, length-drop, set-get_or, set_at, set_split, drop_all, length-take, length_push, take-take, take_all, take_at, take_rest, length-take-le, ◌-◌, Debt, CodeOwing, at_rest, state_in, Rest, Stays, Pays, owed_in, rested_debts, rests_at, beside}
+use Rattle.std.proofs.lemmas.List.{nil_from_length, same_lists}
+use Rattle.sip_machine.proofs.Words.{◌+◌, get_or-take, get_or-drop, get_or-set_same, get_or-set_other, cases_eq, length-set, ◌≡◌, ◌<◌, ◌≤◌, ℕ, List, [], ◌∷◌, ◌++◌, drop, get_or, length, map, set, take, HoldsAt, refl, sym, ◌∙◌, ap, ap₂, subst, arith, nat_tests, get_or-append_seam, take-append_seam, length-drop, set-get_or, set_at, set_split, drop_all, length-take, length_push, take-take, take_all, take_at, take_rest, length-take-le, ◌-◌, Debt, CodeOwing, at_rest, state_in, Rest, Stays, Pays, owed_in, rested_debts, rests_at, beside}
 
 -- What follows is of phases beside the rows of what is owed, as the states of a pool.
 module _ {S : Type 0} where
@@ -30,29 +30,19 @@ module _ {S : Type 0} where
 
   -- the first n phases beside the first n rows are the first n states
   pub beside-take : (phases : List S) (rows : List (List Debt)) (n : ℕ) → length rows ≡ length phases → beside (take n phases) (take n rows) ≡ take n (beside phases rows)
-  beside-take [] rows zero long = refl
-  beside-take [] rows (suc n) long = refl
-  beside-take (p ∷ phases) [] n long = absurd (omega (arith, long))
-  beside-take (p ∷ phases) (r ∷ rows) zero long = refl
-  beside-take (p ∷ phases) (r ∷ rows) (suc n) long = ap (λ xs. record { phase = p; owes = r } ∷ xs) (beside-take phases rows n (omega (arith, long)))
+  beside-take phases rows n long = same_lists _ _ (grind (arith, nat_tests, beside-length, length-take))
+      (λ k d low. grind (arith, nat_tests, get_or-take, length-take, beside-length, beside-at (take n phases) (take n rows) k d.phase d, beside-at phases rows k d.phase d))
 
   -- the phases without the first n beside the rows without the first n are the states without the first n
   pub beside-drop : (phases : List S) (rows : List (List Debt)) (n : ℕ) → length rows ≡ length phases → beside (drop n phases) (drop n rows) ≡ drop n (beside phases rows)
-  beside-drop [] [] zero long = refl
-  beside-drop [] [] (suc n) long = refl
-  beside-drop [] (r ∷ rows) n long = absurd (omega (arith, long))
-  beside-drop (p ∷ phases) [] n long = absurd (omega (arith, long))
-  beside-drop (p ∷ phases) (r ∷ rows) zero long = refl
-  beside-drop (p ∷ phases) (r ∷ rows) (suc n) long = beside-drop phases rows n (omega (arith, long))
+  beside-drop phases rows n long = same_lists _ _ (grind (arith, nat_tests, beside-length, length-drop))
+      (λ k d low. grind (arith, nat_tests, get_or-drop, length-drop, beside-length, beside-at (drop n phases) (drop n rows) k d.phase d, beside-at phases rows (n + k) d.phase d))
 
   -- where the phase and the row at k are changed, the state at k is
   pub beside-set : (phases : List S) (rows : List (List Debt)) (k : ℕ) (phase : S) (row : List Debt) → length rows ≡ length phases →
       beside (set phases k phase) (set rows k row) ≡ set (beside phases rows) k (record { phase = phase; owes = row })
-  beside-set [] [] k phase row long = refl
-  beside-set [] (r ∷ rows) k phase row long = absurd (omega (arith, long))
-  beside-set (p ∷ phases) [] k phase row long = absurd (omega (arith, long))
-  beside-set (p ∷ phases) (r ∷ rows) zero phase row long = refl
-  beside-set (p ∷ phases) (r ∷ rows) (suc k) phase row long = ap (λ xs. record { phase = p; owes = r } ∷ xs) (beside-set phases rows k phase row (omega (arith, long)))
+  beside-set phases rows k p r long = same_lists _ _ (grind (arith, nat_tests, beside-length, length-set))
+      (λ j d low. grind (arith, nat_tests, cases_eq, get_or-set_same, get_or-set_other, length-set, beside-length, beside-at (set phases k p) (set rows k r) j d.phase d, beside-at phases rows j d.phase d))
 
   -- a state that rests keeps its phase, and owes what is left of its debts where it rests
   rests-owes : (t : ℕ) (rest : Rest) (x : CodeOwing S) → rests_at t rest x ≡ record { phase = x.phase; owes = rested_debts t rest x.owes }
@@ -100,11 +90,10 @@ module _ {S : Type 0} where
 
 -- What follows is of lists that grow at their end.
 module _ {X : Type 0} where
-  -- the element at k of a list that has one
+  -- an element of a list that has one at k
   pub some-at : (xs : List X) (k : ℕ) → k < length xs → X
   some-at [] k low = absurd (omega (arith, low))
-  some-at (x ∷ xs) zero low = x
-  some-at (x ∷ xs) (suc k) low = some-at xs k (omega (arith, low))
+  some-at (x ∷ xs) k low = x
 
   -- a list that begins with the old elements is at least as long
   pub not-shorter : (old new : List X) → take (length old) new ≡ old → length old ≤ length new

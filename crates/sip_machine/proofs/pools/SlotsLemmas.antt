@@ -1,48 +1,22 @@
 -- Prints by slots: how the newest print of each slot, and beside each print the one before it in its slot, lead to an equal print.
-use Rattle.sip_machine.proofs.Words.{◌≡◌, ◌≢◌, ◌<◌, ◌≤◌, ◌+◌, ◌-◌, ◌++◌, ◌∷◌, ◌∙◌, [], ℕ, List, get_or, length, arith, ap, subst, sym, set, nat_tests, get_or-map, length-map, map-append, length-set, length_push, get_or_append_left, get_or_push, get_or-set_same, get_or-set_other, cases_eq, cases_lt, SlotPrint, Slotted, AreSlots, IsNewest, IsReached, slot_of, slotted}
+use Rattle.sip_machine.proofs.Words.{◌≡◌, ◌≢◌, ◌<◌, ◌+◌, ◌++◌, ◌∷◌, [], ℕ, List, get_or, length, arith, subst, set, nat_tests, get_or-map, length-map, length-set, length_push, get_or_append_left, get_or_push, get_or-set_same, get_or-set_other, cases_eq, cases_lt, SlotPrint, Slotted, AreSlots, IsNewest, IsReached, slot_of, slotted}
 
--- the prints of the pairs that the code keeps are as many as the pairs
-pub pairs-count : (newest : List ℕ) (kept : List SlotPrint) (s : Slotted) → slotted newest kept ≡ s → length s.prints ≡ length kept
-pairs-count newest kept s is = ap (λ (s : Slotted). length s.prints) (sym is) ∙ length-map kept (λ x. x.print)
-
--- the print at a place, and what it leads to, are what the pair there says
-pub pair-at : (newest : List ℕ) (kept : List SlotPrint) (s : Slotted) (at : ℕ) (x : SlotPrint) → slotted newest kept ≡ s → at < length s.prints → x ≡ get_or kept at x →
-    (get_or s.prints at 0 ≡ x.print) × (get_or s.olders at 0 ≡ x.older)
-pair-at newest kept s at x is low here =
-    let low' = subst (λ n. at < n) (pairs-count newest kept s is) low in (
-      ap (λ (s : Slotted). get_or s.prints at 0) (sym is) ∙ get_or-map (λ x. x.print) kept at x 0 low' ∙ ap (λ (x : SlotPrint). x.print) (sym here),
-      ap (λ (s : Slotted). get_or s.olders at 0) (sym is) ∙ get_or-map (λ x. x.older) kept at x 0 low' ∙ ap (λ (x : SlotPrint). x.older) (sym here),
-    )
+-- the print at a place is that of the pair there, which leads to the newest print of its slot before it
+pub pair-at : (newest : List ℕ) (kept : List SlotPrint) (s : Slotted) (at : ℕ) (x : SlotPrint) → AreSlots (slotted newest kept) → slotted newest kept ≡ s → at < length s.prints →
+    x ≡ get_or kept at x → (get_or s.prints at 0 ≡ x.print) × IsNewest (length s.newest) s.prints (slot_of (length s.newest) x.print) at x.older
+pair-at newest kept s at x are is low here =
+    let print : get_or s.prints at 0 ≡ x.print = grind (arith, get_or-map, length-map) in
+    let older : get_or s.olders at 0 ≡ x.older = grind (arith, get_or-map, length-map) in
+    (print, rw (print, older) at ((subst AreSlots is are).older_is at low))
 
 -- What follows is of a print that is put under its slot.
 
--- a print after the limit does not change which print before the limit is the newest of its slot
-newest-before : (slots : ℕ) (prints : List ℕ) (slot limit newest print : ℕ) → limit ≤ length prints → IsNewest slots prints slot limit newest →
-    IsNewest slots (prints ++ print ∷ []) slot limit newest
-newest-before slots prints slot limit newest print low is = grind (arith, nat_tests, get_or_append_left)
-
--- a new print is the newest of its slot
-newest-here : (slots : ℕ) (prints : List ℕ) (print : ℕ) → IsNewest slots (prints ++ print ∷ []) (slot_of slots print) (length (prints ++ print ∷ [])) (length prints + 1)
-newest-here slots prints print = grind (arith, nat_tests, length_push, get_or_push)
-
--- a print of another slot changes nothing of the newest one of this slot
-newest-other : (slots : ℕ) (prints : List ℕ) (slot newest print : ℕ) → slot ≢ slot_of slots print → IsNewest slots prints slot (length prints) newest →
-    IsNewest slots (prints ++ print ∷ []) slot (length (prints ++ print ∷ [])) newest
-newest-other slots prints slot newest print other is = grind (arith, nat_tests, cases_lt, length_push, get_or_push, get_or_append_left)
-
 -- where a print is put after the others, and its slot leads to it and it to the one before it in the slot, each leads rightly
-slots-grow : (s : Slotted) (print slot newest : ℕ) → AreSlots s → slot ≡ slot_of (length s.newest) print → slot < length s.newest → newest ≡ length s.prints + 1 →
+pub slots-grow : (s : Slotted) (print slot newest : ℕ) → AreSlots s → slot ≡ slot_of (length s.newest) print → slot < length s.newest → newest ≡ length s.prints + 1 →
     AreSlots (record { newest = set s.newest slot newest; prints = s.prints ++ print ∷ []; olders = s.olders ++ get_or s.newest slot 0 ∷ [] })
-slots-grow s print slot newest are is low count = grind (arith, nat_tests, length-set, length_push, cases_eq, get_or-set_same, newest-here, get_or-set_other, newest-other, cases_lt, get_or_append_left, newest-before, get_or_push)
-
--- where a pair for a print is put after the others, and its slot leads to it, the pairs lead rightly
-pub slots-more : (newest : List ℕ) (kept : List SlotPrint) (x : SlotPrint) (slot last : ℕ) → AreSlots (slotted newest kept) → slot ≡ slot_of (length newest) x.print → slot < length newest →
-    x.older ≡ get_or newest slot 0 → last ≡ length kept + 1 → AreSlots (slotted (set newest slot last) (kept ++ x ∷ []))
-slots-more newest kept x slot last are is low older count =
-    rw (map-append (λ y. y.print) kept (x ∷ []), map-append (λ y. y.older) kept (x ∷ []), older)
-    (slots-grow (slotted newest kept) x.print slot last are is low (count ∙ ap (λ n. n + 1) (sym (length-map kept (λ y. y.print)))))
+slots-grow s print slot newest are is low count = grind (arith, nat_tests, length-set, length_push, cases_eq, get_or-set_same, get_or-set_other, cases_lt, get_or_append_left, get_or_push)
 
 -- where the print that is reached is another one, the one before it in the slot is reached
-pub reached-more : (s : Slotted) (print limit next at : ℕ) → AreSlots s → limit ≤ length s.prints → IsReached (length s.newest) s.prints print limit next → next ≡ at + 1 →
-    get_or s.prints at 0 ≢ print → IsReached (length s.newest) s.prints print limit (get_or s.olders at 0)
-reached-more s print limit next at are low reached is apart = grind (arith, nat_tests, cases_lt)
+pub reached-more : (slots : ℕ) (prints : List ℕ) (print limit next at here older : ℕ) → IsReached slots prints print limit next → next ≡ at + 1 → get_or prints at 0 ≡ here →
+    IsNewest slots prints (slot_of slots here) at older → here ≢ print → IsReached slots prints print limit older
+reached-more slots prints print limit next at here older reached is there newest apart = grind (arith, nat_tests, cases_lt)

@@ -17,8 +17,8 @@ use Rattle.sip_machine.specs.declared.book.PlaceRun.{PlaceRun}
 use Rattle.sip_machine.specs.declared.tos.To.{To}
 use Rattle.sip_machine.specs.inner.Order.{texts_of, placed, bytes_at, hash_of, places_of, index_of, IsOrder, IsInRuns, IsGap, IsInside, IsLoose, StandInRuns}
 use Rattle.sip_machine.specs.inner.Retain.{moved}
-use Rattle.sip_machine.specs.inner.Tos.{AreTos, IsTo, IsToOf}
-use Rattle.sip_machine.proofs.acks.ToLemmas.{AreTos-grow}
+use Rattle.sip_machine.specs.inner.Tos.{AreTos}
+use Rattle.sip_machine.proofs.acks.ToLemmas.{AreTos-grow, moved_to}
 use Rattle.sip_machine.proofs.texts.TextLaws.{Contains-nil, Keeps-grow, Keeps-grow_cases, Keeps-added, Keeps-at, text_of-at, text_of-added, text_of-grow, text_of-none, IsBook-grow}
 use Rattle.sip_machine.proofs.texts.OrderLaws.{none_in_gap, IsOrder-grow}
 use Rattle.sip_machine.proofs.texts.RetainLemmas.{kept_place, IsOrder-only}
@@ -88,13 +88,11 @@ module _ (texts : Texts) (number : ℕ) (bytes : List ℕ) (book : IsBook (texts
         let to = get_or tos k d in
         let is = all.each k d low in
         let under = below k d low in
-        go to under is (Keeps-grow_cases texts number bytes to.number is.kept);
+        elim (Keeps-grow_cases texts number bytes to.number is.kept) [
+          | inl keeps ↦ moved_to grown texts to keeps (sym (text_of-grow texts number bytes to.number keeps)) is
+          | inr same ↦ absurd (omega (arith, under, same))
+        ];
   }
-    where
-      -- the To is one of the texts without the newest message, since its number is below the newest
-      go : (to : To) → to.number < number → IsTo grown to → Keeps texts to.number ⊎ (number ≡ to.number) → IsTo texts to
-      go to under is (inl keeps) = record { kept = keeps; text = subst (λ b. IsToOf b to.text) (text_of-grow texts number bytes to.number keeps) is.text }
-      go to under is (inr same) = absurd (omega (arith, under, same))
 
 -- What follows is of the place of the newest message among those of the others.
 

@@ -1,5 +1,5 @@
 use Rattle.std.proofs.lemmas.List.Elements.{All-more}
-use Rattle.sip_machine.proofs.Words.{◌≡◌, ◌==◌, ◌<◌, ◌+◌, ◌∙◌, ℕ, List, Texts, ap, arith, cond, inl, inr, sym, subst, true, true≢false, cases_eq, nat_tests, ne_eqb, All, All-names, All-nil, All-weaker, IfOk-weaker, IsToOf, Keeps, get_or, length, numbers_of, owed_in, take, take_all, text_of}
+use Rattle.sip_machine.proofs.Words.{◌≡◌, ◌==◌, ◌<◌, ◌+◌, ◌∙◌, ℕ, List, Texts, arith, cond, inl, inr, sym, subst, true, true≢false, cases_eq, nat_tests, All, All-names, All-nil, All-weaker, IfOk-weaker, IsToOf, Keeps, get_or, length, numbers_of, owed_in, take, take_all, text_of}
 use Rattle.sip_numbers.specs.declared.numbers.Word.{Word}
 use Rattle.sip_machine.proofs.acks.HolderLemmas.{AreWith, found-among}
 use Rattle.sip_machine.proofs.debts.NamesLemmas.{all-named, all-owed}
@@ -12,18 +12,15 @@ one-with : (texts : Texts) (to : List ℕ) (t : ℕ) (old new : List Word) (name
     AreWith texts to t new (take (at + 1) names)
 one-with texts to t old new names at are low its changed =
     let name = get_or names at 0 in
-    let Old : ℕ → Type 0 = λ m. IsToOf (text_of texts m) to → numbers_of old m ≡ true in
-    let New : ℕ → Type 0 = λ m. IsToOf (text_of texts m) to → numbers_of new m ≡ true in
-    -- what was in the set is there, and the name too
-    let stays : (m : ℕ) → numbers_of old m ≡ true → numbers_of new m ≡ true = λ m was. grind (arith, nat_tests, changed m) in
-    let here : numbers_of new name ≡ true = grind (arith, nat_tests, changed name) in
+    let Has : List Word → ℕ → Type 0 = λ set m. IsToOf (text_of texts m) to → numbers_of set m ≡ true in
     record {
-      -- what is in the set now is the name, or was there
+      -- what is in the set now is the name, or was there; and what was there stays
       only = λ m is. elim (cases_eq m name) [
         | inl same ↦ subst (λ k. IsToOf (text_of texts k) to) (sym same) its
-        | inr other ↦ are.only m (sym (changed m ∙ ap (λ b. cond b true (numbers_of old m)) (ne_eqb m name other)) ∙ is)
+        | inr other ↦ are.only m (grind (arith, nat_tests, changed m))
       ];
-      each = All-more New names at 0 low (All-weaker Old New (λ m was has. stays m (was has)) (take at names) are.each) (λ _. here);
+      each = All-more (Has new) names at 0 low (All-weaker (Has old) (Has new) (λ m was has. grind (arith, nat_tests, changed m, was has)) (take at names) are.each)
+          (λ has. grind (arith, nat_tests, changed name));
     }
 
 -- the book keeps each message that the row owes

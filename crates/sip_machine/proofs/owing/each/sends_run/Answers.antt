@@ -8,7 +8,7 @@ use Rattle.sip_machine.specs.Rules.{Covers, FromSome, Knows}
 use Rattle.sip_machine.specs.FigureRules.{TakeOf}
 use Rattle.sip_machine.specs.Owing.{owing_seen, owing_names, OwingInRange}
 use Rattle.sip_machine.specs.inner.Effects.{LeadsFrom, RestsFrom}
-use Rattle.sip_machine.proofs.pools.CoversLemmas.{HasFound, FromSome-same, FromSome-either, Covers-same, Covers-both, slice-old}
+use Rattle.sip_machine.proofs.pools.CoversLemmas.{HasFound, FromSome-either, Covers-same, Covers-both, slice-old}
 use Rattle.sip_machine.proofs.steps.OwingEachLemmas.{takes-sent}
 use Rattle.sip_machine.proofs.owing.each.sends_run.Goals as goal
 
@@ -50,11 +50,8 @@ returns-clause-gives g c =
       -- what was led and what rests together are what the states take
       Covers-same (owing_names m.names) (OwingInRange m.in_range) (owing_seen m.seen) texts (λ y. FromSome P some y ⊎ FromSome Q some y)
           (FromSome (λ x. TakeOf m.figure p (owing_seen m.seen texts x) e) some)
-          (λ y.
           -- what a state takes of a sent message is where a row leads it or where it rests (`takes-sent`)
-          let either = FromSome-either P Q some y in
-          let same = FromSome-same (λ x y. P x y ⊎ Q x y) (λ x. TakeOf m.figure p (owing_seen m.seen texts x) e) (takes-sent m.figure p m.seen texts e c.requires.action) some y in
-          (λ h. same.0 (either.0 h), λ h. either.1 (same.1 h))) (added ++ more)
+          (FromSome-either P Q (λ x. TakeOf m.figure p (owing_seen m.seen texts x) e) (takes-sent m.figure p m.seen texts e c.requires.action) some) (added ++ more)
           (Covers-both (owing_names m.names) (OwingInRange m.in_range) (owing_seen m.seen) texts (FromSome P some) (FromSome Q some) added more covers rests_old),
     ))
     c.rests_run.ensures.gives

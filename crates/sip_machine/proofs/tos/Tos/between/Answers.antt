@@ -8,12 +8,10 @@ pub returns-clause-count : goal.returns-clause-count
 returns-clause-count c =
     let tos = c.self.inside.list.items in
     let up = rises_weakly (λ to. to.number) tos c.self.invariant.0 in
+    let from = rw c.deref.ensures.value at c.partition_point-from.ensures in
+    let to = rw c.deref-2.ensures.value at c.partition_point-to.ensures in
     -- the first search finds where the numbers reach `low`, and the second where they pass `high`; each call of its closure makes its test of a
     -- number, and changes nothing (`always_returns_same`)
-    let parts = c.partition_point-from.ensures.partitioned (λ to. nat_lt to.number c.args.low) (always_returns_same _ _ _ (λ a r g called. search rules))
-    (rw c.deref.ensures.value (IsPartitionedBy-ltb (λ to. to.number) tos c.args.low up)) in
-    let parts' = c.partition_point-to.ensures.partitioned (λ to. nat_le to.number c.args.high) (always_returns_same _ _ _ (λ a r g called. search rules))
-    (rw c.deref-2.ensures.value (IsPartitionedBy-leb (λ to. to.number) tos c.args.high up)) in
-    rw (← c.self.view_is) (c.saturating_sub.ensures ∙ count_between-parted (λ to. to.number) tos c.args.low c.args.high c.partition_point-from.result c.partition_point-to.result
-    (rw c.deref.ensures.value at c.partition_point-from.ensures.bound) (rw c.deref-2.ensures.value at c.partition_point-to.ensures.bound)
-    (rw c.deref.ensures.value at parts) (rw c.deref-2.ensures.value at parts'))
+    rw (← c.self.view_is) (c.saturating_sub.ensures ∙ count_between-parted (λ to. to.number) tos c.args.low c.args.high _ _ from.bound to.bound
+    (from.partitioned (λ to. nat_lt to.number c.args.low) (always_returns_same _ _ _ (λ a r g called. search rules)) (IsPartitionedBy-ltb (λ to. to.number) tos c.args.low up))
+    (to.partitioned (λ to. nat_le to.number c.args.high) (always_returns_same _ _ _ (λ a r g called. search rules)) (IsPartitionedBy-leb (λ to. to.number) tos c.args.high up)))

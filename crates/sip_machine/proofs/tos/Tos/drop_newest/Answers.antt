@@ -1,7 +1,7 @@
 -- Of the invariant of Tos (`c.self.invariant`) part 0 says that the numbers of the messages rise, and 1 that each stands under its To, if sets are kept.
 use Rattle.std.proofs.lemmas.Option.{slice_get_within}
-use Rattle.sip_machine.proofs.Words.{◌≡◌, ◌∙◌, ◌+◌, ◌-◌, ◌++◌, ◌∷◌, [], AreUnder, Contains, Some, ap, false, get_or_from_slice_get, slice_get, subst, sym, take, take_all, take_more, arith, rules, vec_len, All-contains_itself, All-take}
-use Rattle.sip_machine.proofs.acks.ToLemmas.{AllPairs-take, below, front_below, set-changed, under-taken}
+use Rattle.sip_machine.proofs.Words.{option_to_list, AllPairs, ◌≡◌, ◌∙◌, ◌-◌, ◌++◌, ◌∷◌, [], AreUnder, Contains, Some, ap, false, get_or_from_slice_get, slice_get, subst, sym, take, arith, rules, vec_len, All-contains_itself, All-take}
+use Rattle.sip_machine.proofs.acks.ToLemmas.{below, pairs-before, set-changed, under-changed}
 use Rattle.sip_machine.proofs.tos.Tos.drop_newest.Goals as goal
 use Rattle.sip_machine.proofs.tos.Tos.drop_newest.Goals.{in_default-via-in-None-1, in_default-via-in-Some+in-None-1, in_default-via-in-Some+in-Some-last+else-last-number, in_default-via-in-Some+in-Some-last+then-last-number+in-None-1}
 
@@ -14,19 +14,18 @@ invariant_of-self-2 c =
     let set = c.take.new.self in
     -- `at` says that `last` stands at the end of the list
     let at = rw (c.in-Some-last.is, c.deref.ensures.value) at c.last.ensures.value in
-    -- the last To is the one with this number, and the others have lesser numbers
+    -- the last To is the one with this number
     let same : last.number ≡ c.args.number = omega arith in
-    let lower = rw (← c.self.inside.list.ok.0) at (front_below tos last c.self.invariant.0 at) in
     let here : slice_get tos left ≡ Some last = rw (← c.self.inside.list.ok.0) at (sym at) in
-    let within = slice_get_within tos left last here in
-    let whole : tos ≡ take left tos ++ last ∷ [] = sym (take_all (left + 1) tos (omega (arith, within))) ∙ take_more tos left last within
-    ∙ ap (λ t. take left tos ++ t ∷ []) (get_or_from_slice_get tos left last last here) in
+    let some = slice_get_within tos left last here in
+    let new = c.pop.new.self.items in
+    let whole : tos ≡ new ++ last ∷ [] = c.pop.ensures.items
+    ∙ ap (λ r. new ++ option_to_list r) (c.pop.ensures.value last (omega (arith, some)) ∙ ap Some (get_or_from_slice_get tos left last last here)) in
     let changed = set-changed c.in-Some.sets last.text last.number false (Some c.in-Some-get_mut.set.now) c.in-Some-get_mut.ensures.value (c.get_mut.follows.lender set) set
     ((c.get_mut.follows.holds set).3 (search rules)).0 (rw (← same) at c.take.ensures) in
-    rw c.pop.ensures.rest (
-      AllPairs-take below left tos c.self.invariant.0,
-      under-taken last _ _ (take left tos) changed lower (subst (λ all. AreUnder all c.in-Some.sets) whole
-          (rw c.in-Some.is at c.self.invariant.1)),
+    let before = pairs-before below new last (subst (AllPairs below) whole c.self.invariant.0) in (
+      before.0,
+      under-changed last false _ _ new changed (λ _. before.1) (subst (λ all. AreUnder all c.in-Some.sets) whole (rw c.in-Some.is at c.self.invariant.1)),
       c.self.invariant.2,
     )
 

@@ -272,7 +272,7 @@ impl Seek {
         }
     }
 
-    /// The first place from this one on at which the message is left. The index is asked where what it said last does not tell.
+    /// The first place from this one on at which the message is left. The index is asked where neither what it said last nor the place itself tells.
     pub(crate) fn next(&mut self, gains: &Gains, message: u64, from: usize) -> Option<usize>
         requires gained { AreGains gains.now }
         requires seek { IsSeek gains.now message self.old }
@@ -284,6 +284,9 @@ impl Seek {
                 Some(at) if at < from => {}
                 place => return place,
             }
+        }
+        if gains.has(message, from) {
+            return Some(from);
         }
         self.low = from;
         self.place = gains.next(message, from);

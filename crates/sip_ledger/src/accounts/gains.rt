@@ -273,6 +273,7 @@ impl Seek {
     }
 
     /// The first place from this one on at which the message is left. The index is asked where neither what it said last nor the place itself tells.
+    #[inline(always)]
     pub(crate) fn next(&mut self, gains: &Gains, message: u64, from: usize) -> Option<usize>
         requires gained { AreGains gains.now }
         requires seek { IsSeek gains.now message self.old }

@@ -24,11 +24,8 @@ use std::marker::Model;
 /// After so many looks in vain, prints are asked for in which the order of debts counts too.
 const FEW_LOOKS: usize = 64;
 
-/// The order of so many debts of each state counts at first.
-const FEW_DEBTS: usize = 8;
-
-/// A look at two states takes as long as a walk over so many debts.
-const DEBTS_OF_A_LOOK: usize = 16;
+/// The order of so many debts of each state counts then.
+const FIRST_DEBTS: usize = 8;
 
 /// Up to this many states are told apart by a look at each other, which costs less than to keep their prints.
 const FEW: usize = 8;
@@ -227,25 +224,19 @@ impl<P: Phase> Pool<P> {
     }
 
     /// The indices of the states from `from` on, of equal ones that of the first alone, found by a look at those of the same print. Where many states owe the
-    /// same in other orders, these are looked at in vain. Then the order of what is owed first counts in the prints too, of more and more debts.
+    /// same in other orders, these are looked at in vain. Then the order of what is owed first counts in the prints too.
     #[inline(never)]
     fn first_of_many(&self, from: usize) -> Result<Vec<usize>, AllocError>
         requires { from ≤ length self.now }
         ensures { IfOk result (λ rows. AreFirstOnes self.now from (length self.now) rows.items) }
     {
-        let mut looks = FEW_LOOKS;
-        let mut debts = 0;
-        for _turn in 0..usize::MAX {
-            let prints = self.prints(from, debts)?;
-            if let Some(rows) = self.first_by(from, &prints, looks)? {
-                return Ok(rows);
-            }
-            debts = debts.saturating_mul(4).max(FEW_DEBTS);
-            // As many looks in vain as take the time of the walk.
-            looks = prints.len().saturating_mul(debts) / DEBTS_OF_A_LOOK;
+        let prints = self.prints(from, 0)?;
+        if let Some(rows) = self.first_by(from, &prints, FEW_LOOKS)? {
+            return Ok(rows);
         }
-        // No set has as many states as a number can count.
-        Err(AllocError)
+        let prints = self.prints(from, FIRST_DEBTS)?;
+        // No set has as many pairs of states as a number can count.
+        self.first_by(from, &prints, usize::MAX)?.ok_or(AllocError)
     }
 
     /// The indices of the states from `from` on, of equal ones that of the first alone, found by a look at those of the same print, which stands in the list for

@@ -6,7 +6,7 @@ use Rattle.std.specs.Option.{unwrap_or}
 use Rattle.std.specs.Ordering.{nat_cmp}
 use Rattle.std.proofs.lemmas.Option.{IfSome_then}
 use Rattle.sip_ledger.proofs.gains.LeftLemmas.{held_updated}
-use Rattle.sip_ledger.proofs.Words.{BTreeSet, cond_both, pair_cmp, ◌≡◌, ◌≢◌, ◌<◌, ◌≤◌, ℕ, Bool, true, false, List, [], Option, None, Some, IfSome, sym, arith, nat_tests, true≢false, AreQueues, Err, HasLeft, IsQueue, Ok, OnErr, OnOk, Result, Stands, holds}
+use Rattle.sip_ledger.proofs.Words.{BTreeSet, cond_both, pair_cmp, ◌≡◌, ◌<◌, ◌≤◌, ℕ, Bool, true, List, [], Option, None, Some, IfSome, sym, arith, nat_tests, true≢false, AreQueues, Err, HasLeft, IsQueue, Ok, OnErr, OnOk, Result, Stands, holds}
 
 -- where one place more is left that is not before the end, queues are queues still
 pub queues-later : {s n : BTreeSet (ℕ × ℕ)} {end later : ℕ} {queues : BTreeMap ℕ (List (ℕ × ℕ))} (message place : ℕ) →

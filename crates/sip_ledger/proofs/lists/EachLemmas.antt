@@ -1,5 +1,5 @@
 -- Lists of which each element from one on changes, after which some of them come once more, or of which some come to the front.
-use Rattle.sip_ledger.proofs.Words.{nat_tests, Result, Ok, Err, OnOk, is_err, true≢false, ◌≡◌, ◌<◌, ◌≤◌, ◌⊎◌, inl, inr, ℕ, ◌+◌, ◌-◌, Bool, false, List, [], ◌∷◌, ◌++◌, length, drop, take, get_or, set, map, filter, refl, ap, sym, ◌∙◌, arith, cond, append-nil, drop-take, drop_all, get_or-drop, length-append, length-drop, length-map, length-take, take-append-drop, take-append-le, take-take, take_all, All-drop, filter_more, map_fixed, from_to, true, All, cases_eq, cases_lt, length-set, get_or-map, get_or_default, get_or-set_same, get_or-set_other, get_or-take, length-take-le, same_lists, All-get_or, Rise, suc, zero}
+use Rattle.sip_ledger.proofs.Words.{nat_tests, Result, Ok, Err, OnOk, is_err, true≢false, ◌≡◌, ◌<◌, ◌≤◌, ◌⊎◌, inl, inr, ℕ, ◌+◌, ◌-◌, Bool, false, List, [], ◌∷◌, ◌++◌, length, drop, take, get_or, set, map, filter, refl, ap, sym, ◌∙◌, arith, cond, append-nil, drop-take, drop_all, get_or-drop, length-append, length-drop, length-map, length-take, take-append-drop, take-append-le, take-take, take_all, All-drop, filter_more, map_fixed, from_to, All, cases_eq, cases_lt, length-set, get_or-map, get_or_default, get_or-set_same, get_or-set_other, get_or-take, length-take-le, same_lists, All-get_or, Rise, suc, zero}
 
 -- what a result that is no error tells holds
 pub on_ok : {T E : Type 0} (r : Result T E) (P : Type 0) → is_err r ≡ false → OnOk r P → P

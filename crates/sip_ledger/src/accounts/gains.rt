@@ -142,10 +142,14 @@ impl Gains {
         Ok(())
     }
 
-    /// The first place of the message from this one on that is left.
+    /// The first place of the message from this one on that is left. The place itself is looked at before the index is asked.
     pub(crate) fn next(&self, message: u64, from: usize) -> Option<usize>
+        requires { AreGains self.now }
         ensures { IsNext self.now.messages message from result }
     {
+        if self.has(message, from) {
+            return Some(from);
+        }
         Some(self.messages.next(message, from as u64)? as usize)
     }
 
@@ -259,6 +263,7 @@ pub(crate) struct Seek {
 impl Seek {
     /// From this place on.
     pub(crate) fn new(gains: &Gains, message: u64, low: usize) -> Self
+        requires { AreGains gains.now }
         ensures { IsSeek gains.now message result }
     {
         Seek {
@@ -268,6 +273,7 @@ impl Seek {
     }
 
     /// The first place from this one on at which the message is left. The index is asked where neither what it said last nor the place itself tells.
+    #[inline(always)]
     pub(crate) fn next(&mut self, gains: &Gains, message: u64, from: usize) -> Option<usize>
         requires gained { AreGains gains.now }
         requires seek { IsSeek gains.now message self.old }

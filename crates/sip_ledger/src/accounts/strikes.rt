@@ -68,7 +68,10 @@ fn struck_alone(gains: &Gains, strike: Strike, others: &[Strike], from: usize, e
 {
     let to = strike.to.min(end);
     let mut place = from.max(strike.from);
-    while let Some(at) = gains.next(strike.message, place) {
+    while place < to {
+        let Some(at) = gains.next(strike.message, place) else {
+            return end;
+        };
         if to <= at {
             return end;
         }

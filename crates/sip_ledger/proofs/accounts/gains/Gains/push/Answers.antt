@@ -1,4 +1,4 @@
-use Rattle.sip_ledger.proofs.Lemmas.{ap, arith, Entry, Flags, gains-more, gains-same, leb-true, nat_le, numbers_of, on-error, refl, true, [], ◌++◌, ◌+◌, ◌∙◌, ◌∷◌}
+use Rattle.sip_ledger.proofs.Lemmas.{ap, arith, Entry, Flags, gains-more, gains-same, leb-true, nat_le, numbers_of, on-error, refl, true, [], ◌++◌, ◌∙◌, ◌∷◌}
 use Rattle.sip_ledger.proofs.accounts.gains.Gains.push.Goals as goal
 
 -- where memory is refused for more entries, the gains are the same

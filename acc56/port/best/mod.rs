@@ -1,0 +1,4 @@
+pub mod accounts;
+pub mod debt;
+pub mod index;
+pub mod run;

@@ -1,0 +1,5 @@
+pub mod accounts;
+pub mod debt;
+pub mod index;
+pub mod run;
+pub mod words;

@@ -1,0 +1,1 @@
+pub(crate) fn drop_first<T: Copy>(words: &mut Vec<T>, count: usize) { words.drain(..count); }

@@ -1,0 +1,299 @@
+//! What many rows owe: one list of what they gained, and for each row which of it.
+
+mod account;
+mod each;
+mod gains;
+mod left;
+mod moved;
+mod named;
+mod seek;
+mod strikes;
+
+use crate::near::accounts::account::{
+    Account, EMPTY, debts, earliest_must, expired, find, gained, gained_and_expired,
+    paid_and_expired, place_for, same, without,
+};
+use crate::near::accounts::gains::Gains;
+use crate::near::accounts::left::{drop_front, let_go};
+use crate::near::accounts::moved::{held, move_all};
+use crate::near::accounts::named::name_all;
+use crate::near::accounts::seek::Seek;
+use crate::near::accounts::strikes::Strike;
+use crate::near::debt::Debt;
+use crate::near::run::{Run, runs_of};
+use crate::near::words;
+use crate::shim::{AllocError, Global};
+
+/// What each of many rows owes, oldest first. Contracts see the rows' debts.
+#[derive(Debug)]
+pub struct Accounts {
+    gains: Gains,
+    strikes: Vec<Strike>,
+    rows: Vec<Account>,
+    /// The message that was paid last, while what was gained of it may stand before what is owed of it.
+    paid: Option<u32>,
+}
+
+
+impl Accounts {
+    /// There are no rows.
+    pub fn new(alloc: Global) -> Self
+    {
+        Accounts {
+            gains: Gains::new(alloc),
+            strikes: Vec::new(),
+            rows: Vec::new(),
+            paid: None,
+        }
+    }
+
+    /// How many rows there are.
+    pub fn len(&self) -> usize
+    {
+        self.rows.len()
+    }
+
+    /// Puts a row that owes nothing after the others. On an error all is as before.
+    pub fn push(&mut self) -> Result<(), AllocError>
+    {
+        self.rows.push(EMPTY);
+        Ok(())
+    }
+
+    /// Puts a row that owes what this one does after the others. On an error all is as before.
+    pub fn push_copy(&mut self, row: usize) -> Result<(), AllocError>
+    {
+        self.rows.push(self.rows[row]);
+        Ok(())
+    }
+
+    /// Keeps the first rows.
+    pub fn truncate(&mut self, rows: usize)
+    {
+        self.rows.truncate(rows);
+    }
+
+    /// Drops the first rows.
+    pub fn drop_first(&mut self, rows: usize)
+    {
+        let count = rows.min(self.rows.len());
+        words::drop_first(&mut self.rows, count);
+    }
+
+    /// Keeps the rows of these numbers, which rise.
+    pub fn keep(&mut self, rows: &[usize])
+    {
+        for to in 0..rows.len() {
+            self.copy(rows[to], to);
+        }
+        self.truncate(rows.len());
+    }
+
+    /// Lets the row owe what another one does, and nothing else.
+    pub fn copy(&mut self, from: usize, to: usize)
+    {
+        self.rows[to] = self.rows[from];
+    }
+
+    /// Lets the row owe one more debt, after its others. On an error all is as before.
+    pub fn gain(&mut self, row: usize, debt: Debt) -> Result<(), AllocError>
+    {
+        let account = self.rows[row];
+        let place = place_for(&mut self.gains, &self.strikes, account, debt)?;
+        self.rows[row] = gained(&self.gains, &mut self.strikes, account, debt, place)?;
+        Ok(())
+    }
+
+    /// Takes out of the row the first debt that a send of the message at the moment pays, if there is one. On an error all is
+    /// as before.
+    pub fn pay(&mut self, row: usize, message: u32, moment: u64) -> Result<(), AllocError>
+    {
+        let account = self.rows[row];
+        let mut seek = Seek::new(&self.gains, message, account.start);
+        if let Some(place) = find(
+            &self.gains,
+            &self.strikes,
+            account,
+            &mut seek,
+            message,
+            moment,
+        ) {
+            self.rows[row] = without(&self.gains, &mut self.strikes, account, place)?;
+            self.paid = Some(message);
+        }
+        Ok(())
+    }
+
+    /// Whether the row has a debt that a send of the message at the moment pays.
+    pub fn can_pay(&self, row: usize, message: u32, moment: u64) -> bool
+    {
+        let account = self.rows[row];
+        let mut seek = Seek::new(&self.gains, message, account.start);
+        find(
+            &self.gains,
+            &self.strikes,
+            account,
+            &mut seek,
+            message,
+            moment,
+        )
+        .is_some()
+    }
+
+    /// Drops what the row may send and whose deadline is below the moment. On an error all is as before.
+    pub fn expire(&mut self, row: usize, moment: u64) -> Result<(), AllocError>
+    {
+        self.rows[row] = expired(&self.gains, &mut self.strikes, self.rows[row], moment)?;
+        Ok(())
+    }
+
+    /// Lets the row owe one more debt, after its others, and drops what it may send and whose deadline is below the moment. On an error
+    /// all is as before.
+    pub fn gain_and_expire(&mut self, row: usize, debt: Debt, moment: u64) -> Result<(), AllocError>
+    {
+        let account = self.rows[row];
+        let place = place_for(&mut self.gains, &self.strikes, account, debt)?;
+        self.rows[row] = gained_and_expired(
+            &self.gains,
+            &mut self.strikes,
+            account,
+            debt,
+            place,
+            moment,
+        )?;
+        Ok(())
+    }
+
+    /// Takes out of the row the first debt that a send of the message at the moment pays, if there is one, and drops what it may send and
+    /// whose deadline is below the moment. On an error all is as before.
+    pub fn pay_and_expire(
+        &mut self,
+        row: usize,
+        message: u32,
+        moment: u64,
+    ) -> Result<(), AllocError>
+    {
+        self.rows[row] = paid_and_expired(
+            &self.gains,
+            &mut self.strikes,
+            self.rows[row],
+            message,
+            moment,
+        )?;
+        self.paid = Some(message);
+        Ok(())
+    }
+
+    /// Of what the row owes, nothing has to be sent any more.
+    pub fn soften(&mut self, row: usize)
+    {
+        let soft = self.gains.end;
+        self.rows[row] = Account {
+            soft,
+            ..self.rows[row]
+        };
+    }
+
+    /// The row owes nothing any more.
+    pub fn clear(&mut self, row: usize)
+    {
+        self.rows[row] = EMPTY;
+    }
+
+    /// The least deadline of what the row must send.
+    pub fn earliest_must(&self, row: usize) -> Option<u64>
+    {
+        earliest_must(&self.gains, &self.strikes, self.rows[row])
+    }
+
+    /// Whether the row owes nothing.
+    pub fn owes_nothing(&self, row: usize) -> bool
+    {
+        let account = self.rows[row];
+        account.start == account.end
+    }
+
+    /// Whether two rows owe the same.
+    pub fn same(&self, row: usize, other: usize) -> bool
+    {
+        same(&self.gains, &self.strikes, self.rows[row], self.rows[other])
+    }
+
+    /// A number for what the row owes: rows that owe the same have the same, and others hardly ever.
+    pub fn print(&self, row: usize) -> u64
+    {
+        self.rows[row].print
+    }
+
+    /// Puts the number of each message that the row owes after the others, once for each debt.
+    pub fn names(&self, alloc: Global, row: usize, numbers: &mut Vec<u32>) -> Result<(), AllocError>
+    {
+        let debts = debts(alloc, &self.gains, &self.strikes, self.rows[row])?;
+        for debt in &debts {
+            numbers.push(debt.message);
+        }
+        Ok(())
+    }
+
+    /// Puts the numbers of the messages that rows owe after the others, from the least on, each once. On an error the vector is as
+    /// before.
+    pub fn all_names(&self, numbers: &mut Vec<u32>) -> Result<(), AllocError>
+    {
+        let before = numbers.len();
+        if name_all(&self.gains, &self.strikes, &self.rows, numbers).is_err() {
+            numbers.truncate(before);
+            return Err(AllocError);
+        }
+        Ok(())
+    }
+
+    /// What the row owes, with equal neighbours in one.
+    pub fn runs(&self, alloc: Global, row: usize) -> Result<Vec<Run>, AllocError>
+    {
+        let debts = debts(alloc, &self.gains, &self.strikes, self.rows[row])?;
+        runs_of(alloc, &debts)
+    }
+
+    /// Gives back what no row needs. It is to be called after each step: where many rows pay, what they paid is then looked at
+    /// once.
+    pub fn tidy(&mut self)
+    {
+        self.let_go_paid();
+        self.drop_front();
+        self.thin();
+    }
+
+    /// Lets the first gains of the message that was paid go, as far as no row owes them.
+    fn let_go_paid(&mut self)
+    {
+        if let Some(message) = self.paid {
+            let_go(&mut self.gains, &self.strikes, &self.rows, message);
+            self.paid = None;
+        }
+    }
+
+    /// Drops the gains before all that is owed, where they are more than half of those that are kept.
+    fn drop_front(&mut self)
+    {
+        drop_front(&mut self.gains, &self.strikes, &self.rows);
+    }
+
+    /// Lets strikes go that no row has, or that strike nothing that is left, where there are four times as many as rows have. Where there
+    /// is no memory for it all stays as it is.
+    fn thin(&mut self)
+    {
+        if self.strikes.len() / 4 <= held(&self.rows) {
+            return;
+        }
+        let alloc = Global;
+        if let Ok(moved) = move_all(alloc, &self.gains, &self.strikes, &self.rows) {
+            self.strikes = moved.strikes;
+            self.rows = moved.rows;
+        }
+    }
+    pub fn told(&self) -> String {
+        format!("kept {} of {} gains, left {}, strikes {}, most of a row {}", self.gains.entries.len(), self.gains.end, self.gains.messages.len(), self.strikes.len(), self.rows.iter().map(|a| a.last - a.first).max().unwrap_or(0))
+    }
+    pub fn push_payable(&mut self, _: usize, _: usize, _: u32, _: u64) -> Result<(), AllocError> { unreachable!() }
+    pub fn pay_each(&mut self, _: usize, _: u32, _: u64) -> Result<(), AllocError> { unreachable!() }
+}

@@ -1,0 +1,4 @@
+#[derive(Clone, Copy, Debug)]
+pub struct Global;
+#[derive(Clone, Copy, Debug, PartialEq)]
+pub struct AllocError;

@@ -1,0 +1,12 @@
+pub mod ledger;
+pub mod rows;
+pub mod row;
+pub mod table;
+pub mod words;
+pub mod bits;
+pub mod memo;
+pub mod long_row;
+pub mod index;
+pub mod indexes;
+pub mod debt;
+pub mod run;

@@ -1,0 +1,7 @@
+import sys; sys.path.insert(0,'/work/land/bench'); sys.dont_write_bytecode=True
+from pathlib import Path
+import judge as J
+print(J.COUNTED, J.COUNTED_WIDE, [k.__name__ for k in J.KINDS])
+for k in J.KINDS:
+    for n in (J.COUNTED_WIDE if k.__name__=='wide' else J.COUNTED):
+        J.write_log(Path(f"/work/h/cnt/logs/{k.__name__}.{n}"),k,n)

@@ -1,0 +1,1 @@
+/work/h/bin/slot /work/h/bin/holeall /work/mine sip_machine /work/h/bases/mine 2 --proved 'sip_standard sip_times sip_text sip_masks sip_message sip_key' "$@" 2>&1 | grep -v '^/opt/rattle/bin/rattle check' | cut -c1-300 | tail -90

@@ -1,0 +1,1 @@
+/work/h/bin/slot /work/h/bin/holeall /work/mine sip_ledger /work/h/bases/mine 2 --proved 'sip_standard sip_text sip_masks' "$@" 2>&1 | grep -v '^/opt/rattle/bin/rattle check\|^statements\|no holes' | cut -c1-330 | tail -70

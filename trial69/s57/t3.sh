@@ -1,0 +1,2 @@
+cd /work/h/bases/s57
+/work/h/bin/slot bash -c 'bash one.sh /work/s57 t3 > t3.out 2>&1; LOGS="logs/calls.2000 logs/calls.6000 logs/options.2000 logs/options.6000 logs/mixed.2000 logs/mixed.6000 logs/proxy.2000 logs/proxy.6000 logs/registers.2000 logs/registers.6000 logs/keys.2000 logs/keys.6000" ./count.sh t3 $PWD/prog_t3; LOGS="logs2/long.2000 logs2/long.4000" ./count.sh lt3 $PWD/prog_t3; python3 tab.py base t2 t3 > /work/h/logs/s57.t3.log; cat prof/lt3.counts >> /work/h/logs/s57.t3.log; date >> /work/h/logs/s57.t3.log'

@@ -1,0 +1,1 @@
+cd /work/h/bases/walk/real; bash q.sh s_v8 s_v9; cd ..; bash cnt.sh v8 v9; valgrind --tool=callgrind --callgrind-out-file=prof/f.v9 real/prog_s_v9 --part 1/64000 logs/calls.6000 >/dev/null 2>&1; callgrind_annotate prof/f.v9 | head -60; MODES="1/64000 1/4 whole" python3 tm.py 3 base v1 v9
